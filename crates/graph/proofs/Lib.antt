@@ -1,0 +1,4 @@
+pub mod Marks
+pub mod Rows
+pub mod Loops
+pub mod Edits

@@ -1,0 +1,12 @@
+use Rattle.graph.proofs.Marks.{marked-none, mark-is}
+use mathlib.Core.Path.{_≡_}
+use native.Mathlib.Omega.{arith}
+use Rattle.std.proofs.shelf.Tests.{le-ltb}
+use Rattle.std.proofs.shelf.Ways.{tells}
+use Rattle.graph.proofs.stage_set.methods.mark.Needs as need
+
+pub returns-then-s-lt64 : need.returns-then-s-lt64
+returns-then-s-lt64 c = mark-is (c .args .s) (omega arith)
+
+pub returns : need.returns
+returns c t = let m = marked-none t in grind (arith, tells)

@@ -1,0 +1,10 @@
+-- The stages in a set.
+use mathlib.Core.Path.{_≡_}
+use Prim.Native.Nat.{ℕ}
+use Rattle.theory.specs.Loops.{Stages}
+use Rattle.graph.specs.Marks.{marked}
+use Rattle.graph.specs.declared.stage_set.StageSet.{StageSet}
+
+-- The stages that are in the set: those that its word marks.
+abbrev pub stages : StageSet → Stages
+stages set = marked (set .word)

@@ -1,0 +1,4 @@
+//! Tests of stage sets, digraphs and graphs on small cases.
+
+#[cfg(test)]
+mod tests;

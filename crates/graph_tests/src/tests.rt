@@ -1,0 +1,30 @@
+use graph::fault::Cause;
+use graph::fault::Fault;
+use graph::fault::Layer;
+use graph::fault::Site;
+use graph::graph::Graph;
+
+mod digraphs;
+mod edits;
+mod live_marks;
+mod stage_sets;
+
+// Where the edits of these tests are reported.
+const SITE: Site = Site {
+    layer: Layer::Record,
+    place: 40,
+};
+
+// The graph of `n` stages with no links and no live marks, or `n` where there is none.
+fn bare(n: u8) -> Result<Graph, u8> {
+    Graph::new(n).ok_or(n)
+}
+
+// The refusal for this cause at that site.
+fn refused(cause: Cause) -> Result<(), Fault> {
+    Err(Fault {
+        cause,
+        layer: Layer::Record,
+        place: 40,
+    })
+}

@@ -1,0 +1,3 @@
+pub mod LineParts
+pub mod Listing
+pub mod Reports

@@ -1,0 +1,3 @@
+pub mod Walking
+pub mod Through
+pub mod Deciding

@@ -1,0 +1,17 @@
+-- What linking, dropping a link and passing a stage leave of the links.
+use mathlib.Core.Bool.{_&&_, _||_, not}
+use Prim.Native.Nat.{ℕ}
+use lib.Dec.{eqb}
+use Rattle.theory.specs.Loops.{Links}
+
+-- The links with one from u to v too.
+abbrev pub with-link : Links → ℕ → ℕ → Links
+with-link L u v a b = L a b || eqb a u && eqb b v
+
+-- The links without the one from u to v.
+abbrev pub dropped : Links → ℕ → ℕ → Links
+dropped L u v a b = L a b && not (eqb a u && eqb b v)
+
+-- Stage v is passed: each stage before it is linked to each stage after it, and then it is removed with its links.
+abbrev pub passed : Links → ℕ → Links
+passed L v a b = (L a b || L a v && L v b) && not (eqb a v) && not (eqb b v)
