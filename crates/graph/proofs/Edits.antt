@@ -2,35 +2,33 @@
 use mathlib.Core.Path.{_≡_, refl, sym, _∙_, ap, subst, fun-ext}
 use mathlib.Core.Bool.{Bool, true, false, _&&_, _||_, cond, not}
 use mathlib.Core.List.{List, [], _∷_}
-use mathlib.Core.Logic.{_↔_, _⊎_, inl, inr, ⊎-elim, _≢_}
-use Prim.Native.Nat.{ℕ, _+_, _-_, _^_, _<_, _≤_}
+use mathlib.Core.Logic.{_⊎_, inl, inr, ⊎-elim}
+use Prim.Native.Nat.{ℕ, _^_, _<_, _≤_}
 use native.Mathlib.Omega.{arith}
-use lib.Bits.{bitAnd, bitOr, and-lt, or-lt}
+use lib.Bits.{and-lt, or-lt}
 use lib.Dec.{eqb, ltb}
-use lib.ListN.{getD, replicate, set}
+use lib.ListN.{replicate}
 use Rattle.std.specs.Orderings.{Decides}
 use Rattle.std.specs.declared.option.Option.{Option}
 use Rattle.std.specs.declared.option.Option.the-variants.{Some, None}
 use Rattle.std.specs.declared.result.Result.{Result}
-use Rattle.std.specs.declared.result.Result.the-variants.{Ok, Err}
 use Rattle.std.proofs.shelf.Bits.{pow-below}
-use Rattle.std.proofs.shelf.Tests.{and-from, and-left, and-parts, and-right, cond-true, eqb-true, or-cases, both-ways, cases-bool, cases-lt, lt-ltb, le-ltb, ltb-true, ltb-false, not-from-true, not-from-false}
-use Rattle.std.proofs.shelf.Ways.{decides-and, decides-like, decides-ltb, same-from-decides, tells}
+use Rattle.std.proofs.shelf.Tests.{and-from, and-left, and-parts, and-right, cond-true, eqb-true, or-cases, both-ways, lt-ltb, le-ltb, ltb-true}
+use Rattle.std.proofs.shelf.Ways.{decides-and, decides-ltb, same-from-decides, tells}
 use Rattle.theory.specs.Loops.{Chain, Link, Links, Stages, Loop, Within, between}
-use Rattle.theory.specs.LoopTests.{looped}
 use Rattle.theory.specs.Moves.{dropped, with-link}
 use Rattle.theory.proofs.Deciding.{loop-test-decides}
 use Rattle.theory.proofs.Walking.{chain-map}
 use Rattle.graph.specs.declared.fault.Cause.{Cause}
-use Rattle.graph.specs.declared.fault.Cause.the-variants.{TooManyStages, NoSuchStage, AlreadyThere, LiveLoop, NotThere}
+use Rattle.graph.specs.declared.fault.Cause.the-variants.{NoSuchStage, AlreadyThere, LiveLoop, NotThere}
 use Rattle.graph.specs.declared.fault.Fault.{Fault}
 use Rattle.graph.specs.declared.fault.Site.{Site}
 use Rattle.graph.specs.declared.digraph.Digraph.{Digraph}
 use Rattle.graph.specs.declared.graph.Graph.{Graph}
 use Rattle.graph.specs.declared.stage_set.StageSet.{StageSet}
 use Rattle.graph.specs.Edits.{Adds, Changed, Frees, Links-up, Marks-live, TakesOff, Unlinks, with-stage, without-stage}
-use Rattle.graph.specs.Faults.{after, answer, cause-of, fault, number, unless}
-use Rattle.graph.specs.Graphs.{PlainGraph, Sound, bare, free-refusal, freed, link-refusal, linked-too, links-of, live-links, live-looped, live-of, live-refusal, live-too, one-more, plain, stage-refusal, unlink-refusal, unlinked}
+use Rattle.graph.specs.Faults.{after, answer, cause-of, number, unless}
+use Rattle.graph.specs.Graphs.{PlainGraph, Sound, bare, free-refusal, freed, link-refusal, linked-too, links-of, live-links, live-looped, live-of, live-refusal, live-too, plain, unlink-refusal, unlinked}
 use Rattle.graph.specs.Marks.{linked, marked}
 use Rattle.graph.proofs.Marks.{marked-minus, marked-none, marked-one, marked-set, same-words}
 use Rattle.graph.proofs.Rows.{Rows, no-rows, unlinked-rows, rows-of, same-rows, with-mark-links, with-mark-rows, without-mark-links, without-mark-rows}
@@ -121,6 +119,10 @@ cause-answer (Some c) site = refl
 pub after-none : {S : Type 0} (o : Option Cause) (before made : S) → o ≡ None → after o before made ≡ made
 after-none o before made e = ap (λ x. after x before made) e
 
+after-some : {S : Type 0} (o : Option Cause) (before made : S) → (o ≡ None → ⊥) → after o before made ≡ before
+after-some None before made some = absurd (some refl)
+after-some (Some cause) before made some = refl
+
 same-links : (L M : Links) → ((a b : ℕ) → L a b ≡ M a b) → L ≡ M
 same-links L M e = fun-ext (λ a. fun-ext (λ b. e a b))
 
@@ -183,6 +185,9 @@ module _ (g h : PlainGraph) (made : PlainGraph) (o : Option Cause) (site : Site)
   pub its-cause : cause-of r ≡ o
   its-cause = ap cause-of answered ∙ cause-answer o site
 
+  pub its-old-graph : (cause-of r ≡ None → ⊥) → h ≡ g
+  its-old-graph some = left ∙ after-some o g made (λ e. some (its-cause ∙ e))
+
   pub its-graph : cause-of r ≡ None → h ≡ made
   its-graph e = left ∙ after-none o g made (sym its-cause ∙ e)
 
@@ -199,10 +204,13 @@ pub link-words : (g h : PlainGraph) → Sound g → (u v : ℕ) (site : Site) (r
     → r ≡ answer (link-refusal g u v) site → h ≡ after (link-refusal g u v) g (linked-too g u v) → Links-up g u v (cause-of r) h
 link-words g h s u v site r a l = (
   adds-as _ _ cause refusals,
-  λ e.
-      let ends = refusals .accepted .0 (sym cause ∙ e) .0 in
-      changed-as g h _ (its-graph g h (linked-too g u v) (link-refusal g u v) site r a l e)
-      (record { same-stages = refl; links = link-links g s u v (ends .0); live = λ _. refl }),
+  (
+    its-old-graph g h (linked-too g u v) (link-refusal g u v) site r a l,
+    λ e.
+        let ends = refusals .accepted .0 (sym cause ∙ e) .0 in
+        changed-as g h _ (its-graph g h (linked-too g u v) (link-refusal g u v) site r a l e)
+        (record { same-stages = refl; links = link-links g s u v (ends .0); live = λ _. refl }),
+  ),
 )
   where
     cause : cause-of r ≡ link-refusal g u v
@@ -220,10 +228,13 @@ pub unlink-words : (g h : PlainGraph) → Sound g → (u v : ℕ) (site : Site) 
     → r ≡ answer (unlink-refusal g u v) site → h ≡ after (unlink-refusal g u v) g (unlinked g u v) → Unlinks g u v (cause-of r) h
 unlink-words g h s u v site r a l = (
   takes-off-as _ _ cause refusals,
-  λ e.
-      let ends = refusals .accepted .0 (sym cause ∙ e) .0 in
-      changed-as g h _ (its-graph g h (unlinked g u v) (unlink-refusal g u v) site r a l e)
-      (record { same-stages = refl; links = unlink-links g s u v (ends .0) (ends .1); live = λ _. refl }),
+  (
+    its-old-graph g h (unlinked g u v) (unlink-refusal g u v) site r a l,
+    λ e.
+        let ends = refusals .accepted .0 (sym cause ∙ e) .0 in
+        changed-as g h _ (its-graph g h (unlinked g u v) (unlink-refusal g u v) site r a l e)
+        (record { same-stages = refl; links = unlink-links g s u v (ends .0) (ends .1); live = λ _. refl }),
+  ),
 )
   where
     cause : cause-of r ≡ unlink-refusal g u v
@@ -247,9 +258,12 @@ pub live-words : (g h : PlainGraph) → Sound g → (v : ℕ) (site : Site) (r :
 live-words g h s v site r a l = (
   adds-as _ _ (its-cause g h (live-too g v) (live-refusal g v) site r a l)
       (adds _ _ _ _ _ _ (decides-ltb v (g .n)) (yes-decides (live-of g v)) (λ _. mark-decides g s v)),
-  λ e.
-      changed-as g h _ (its-graph g h (live-too g v) (live-refusal g v) site r a l e)
-      (record { same-stages = refl; links = λ _ _. refl; live = live-marks g v }),
+  (
+    its-old-graph g h (live-too g v) (live-refusal g v) site r a l,
+    λ e.
+        changed-as g h _ (its-graph g h (live-too g v) (live-refusal g v) site r a l e)
+        (record { same-stages = refl; links = λ _ _. refl; live = live-marks g v }),
+  ),
 )
 
 pub free-marks : (g : PlainGraph) → Sound g → (v : ℕ) → v < g .n → (s : ℕ) → live-of (freed g v) s ≡ without-stage (live-of g) v s
@@ -261,9 +275,12 @@ pub free-words : (g h : PlainGraph) → Sound g → (v : ℕ) (site : Site) (r :
     → r ≡ answer (free-refusal g v) site → h ≡ after (free-refusal g v) g (freed g v) → Frees g v (cause-of r) h
 free-words g h s v site r a l = (
   takes-off-as _ _ cause refusals,
-  λ e.
-      changed-as g h _ (its-graph g h (freed g v) (free-refusal g v) site r a l e)
-      (record { same-stages = refl; links = λ _ _. refl; live = free-marks g s v (refusals .accepted .0 (sym cause ∙ e) .0) }),
+  (
+    its-old-graph g h (freed g v) (free-refusal g v) site r a l,
+    λ e.
+        changed-as g h _ (its-graph g h (freed g v) (free-refusal g v) site r a l e)
+        (record { same-stages = refl; links = λ _ _. refl; live = free-marks g s v (refusals .accepted .0 (sym cause ∙ e) .0) }),
+  ),
 )
   where
     cause : cause-of r ≡ free-refusal g v

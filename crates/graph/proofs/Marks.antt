@@ -1,18 +1,18 @@
 -- The marks of a word under the operations on words.
-use mathlib.Core.Path.{_≡_, refl, sym, _∙_, subst, ap, ap₂}
-use mathlib.Core.Bool.{Bool, true, false, _&&_, _||_, not, xor}
-use mathlib.Core.Logic.{_⊎_, inl, inr, ⊎-elim, _≢_}
+use mathlib.Core.Path.{_≡_, refl, sym, _∙_, subst, ap}
+use mathlib.Core.Bool.{Bool, true, false, _&&_, _||_, not}
+use mathlib.Core.Logic.{_⊎_, inl, inr, ⊎-elim}
 use Prim.Native.Nat.{ℕ, zero, suc, _+_, _-_, _*_, _/_, _%_, _^_, _<_, _≤_}
 use native.Mathlib.Omega.{arith}
 use native.Mathlib.Nat.{div-eq-of-lt, mod-eq-of-lt, le-trans, zero-div, add-comm, mod-lt, mul-comm, mul-mod-left, pow-suc, div-self}
 use native.Mathlib.Numerals.{add-one}
 use lib.Arith.{digits-div, digits-mod}
 use lib.Dec.{eqb, ltb}
-use lib.Bits.{and-le-l, and-le-r, and-lt, xor-lt, bitAnd, bitOr, bitXor, and-shr, or-shr, xor-shr, and-mod, or-mod, xor-mod, and-mask, xor-add-and, shifted-even}
+use lib.Bits.{and-le-l, and-le-r, and-lt, xor-lt, bitAnd, bitOr, bitXor, and-shr, or-shr, xor-shr, and-mod, or-mod, xor-mod, and-mask, xor-add-and}
 use lib.Pow.{ones-lt, ones-split, pow-mono, pow-add, pow-pos, shl-shr}
 use Rattle.std.proofs.shelf.Tests.{cases-bool, cases-lt, both-ways, eqb-false, cases-order, eq-eqb, ne-eqb, eqb-true, le-ltb, lt-ltb}
 use Rattle.std.proofs.shelf.Bits.{one-shl, pow-below, shr-below, shr-split}
-use Rattle.std.proofs.shelf.Ways.{decides-below-and, tells, decides-eqb}
+use Rattle.std.proofs.shelf.Ways.{decides-below-and, tells}
 use Rattle.graph.specs.Marks.{marked}
 
 -- a digit is 0 or 1

@@ -1,6 +1,6 @@
 -- What the edits of a graph refuse and change, in the words of stages, links, marks and loops.
 use mathlib.Core.Path.{_≡_}
-use mathlib.Core.Bool.{true, false, _&&_, _||_, not}
+use mathlib.Core.Bool.{true, _&&_, _||_, not}
 use mathlib.Core.Logic.{_↔_}
 use Prim.Native.Nat.{ℕ, _<_}
 use lib.Dec.{eqb}
@@ -40,25 +40,30 @@ pub record Changed (g h : PlainGraph) (L : Links) (S : Stages) : Type 0 where
   pub links : (a b : ℕ) → links-of h a b ≡ L a b
   pub live : (s : ℕ) → live-of h s ≡ S s
 
+-- What an edit leaves: a refused one the graph as it was, and an accepted one its stages, these links and these
+-- live stages.
+abbrev pub Leaves : PlainGraph → Option Cause → PlainGraph → Links → Stages → Type 0
+Leaves g refusal h L S = ((refusal ≡ None → ⊥) → h ≡ g) × (refusal ≡ None → Changed g h L S)
+
 -- Linking u to v.
 abbrev pub Links-up : PlainGraph → ℕ → ℕ → Option Cause → PlainGraph → Type 0
 Links-up g u v refusal h =
     Adds refusal ((u < g .n) × (v < g .n)) (links-of g u v ≡ true) (between (with-link (links-of g) u v) (live-of g))
-    × (refusal ≡ None → Changed g h (with-link (links-of g) u v) (live-of g))
+    × Leaves g refusal h (with-link (links-of g) u v) (live-of g)
 
 -- Taking the link from u to v off.
 abbrev pub Unlinks : PlainGraph → ℕ → ℕ → Option Cause → PlainGraph → Type 0
 Unlinks g u v refusal h =
     TakesOff refusal ((u < g .n) × (v < g .n)) (links-of g u v ≡ true)
-    × (refusal ≡ None → Changed g h (dropped (links-of g) u v) (live-of g))
+    × Leaves g refusal h (dropped (links-of g) u v) (live-of g)
 
 -- Marking stage s live.
 abbrev pub Marks-live : PlainGraph → ℕ → Option Cause → PlainGraph → Type 0
 Marks-live g s refusal h =
     Adds refusal (s < g .n) (live-of g s ≡ true) (between (links-of g) (with-stage (live-of g) s))
-    × (refusal ≡ None → Changed g h (links-of g) (with-stage (live-of g) s))
+    × Leaves g refusal h (links-of g) (with-stage (live-of g) s)
 
 -- Taking the live mark of stage s off.
 abbrev pub Frees : PlainGraph → ℕ → Option Cause → PlainGraph → Type 0
 Frees g s refusal h =
-    TakesOff refusal (s < g .n) (live-of g s ≡ true) × (refusal ≡ None → Changed g h (links-of g) (without-stage (live-of g) s))
+    TakesOff refusal (s < g .n) (live-of g s ≡ true) × Leaves g refusal h (links-of g) (without-stage (live-of g) s)

@@ -60,7 +60,7 @@ live-looped g = looped (g .n) (live-links g)
 abbrev pub with-mark : ℕ → ℕ → ℕ
 with-mark word s = bitOr word (2 ^ s)
 
--- The word with stage s not marked.
+-- The word with stage s, below 64, not marked.
 abbrev pub without-mark : ℕ → ℕ → ℕ
 without-mark word s = bitAnd word (2 ^ 64 - 1 - 2 ^ s)
 

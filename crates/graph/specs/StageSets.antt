@@ -1,6 +1,4 @@
 -- The stages in a set.
-use mathlib.Core.Path.{_≡_}
-use Prim.Native.Nat.{ℕ}
 use Rattle.theory.specs.Loops.{Stages}
 use Rattle.graph.specs.Marks.{marked}
 use Rattle.graph.specs.declared.stage_set.StageSet.{StageSet}

@@ -1,7 +1,7 @@
 -- The lines of held stages, listed one after another.
 use mathlib.Core.Path.{_≡_, refl, sym, _∙_, ap, subst}
 use mathlib.Core.Bool.{cond}
-use mathlib.Core.List.{List, [], _∷_, _++_}
+use mathlib.Core.List.{List, [], _++_}
 use Prim.Native.Nat.{ℕ, _+_, _≤_}
 use native.Mathlib.Omega.{arith}
 use lib.ListN.{drop, getD, length}
@@ -18,7 +18,7 @@ use Rattle.sheet_format.specs.Reading.{no-contents, records-from, taken-in}
 use Rattle.sheet.specs.declared.reader.Reader.{Reader}
 use Rattle.sheet.specs.declared.record.Record.{Record}
 use Rattle.sheet.specs.Records.{Steps, entry-told}
-use Rattle.sheet.proofs.ReadLoop.{Over, faulty, found-entry, found-less, found-next, no-more, over-still}
+use Rattle.sheet.proofs.ReadLoop.{Over, faulty, found-entry, found-next, no-more}
 use Rattle.sheet.proofs.RecordSteps.{names-with, next-record, ok-not-err, same-ok, taken-names, then-ok}
 use Rattle.report.specs.Lines.{hold-line, hold-lines}
 use Rattle.report.specs.Texts.{entry-lines, record-in, stages-after}

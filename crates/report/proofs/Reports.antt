@@ -2,13 +2,12 @@
 use mathlib.Core.Path.{_≡_, refl, sym, _∙_, ap, fun-ext}
 use mathlib.Core.Bool.{Bool, true, false, _&&_, not}
 use mathlib.Core.List.{List, [], _∷_, _++_, map}
-use Prim.Native.Nat.{ℕ, _+_, _-_}
+use Prim.Native.Nat.{ℕ, _-_}
 use native.Mathlib.Omega.{arith}
 use lib.Chars.{codes}
 use lib.Dec.{leb, ltb}
 use lib.ListN.{drop, length, take}
-use Rattle.std.specs.declared.result.Result.{Result}
-use Rattle.std.specs.declared.result.Result.the-variants.{Ok, Err}
+use Rattle.std.specs.declared.result.Result.the-variants.{Ok}
 use Rattle.std.proofs.shelf.Lists.{append-assoc, length-map, take-at}
 use Rattle.std.proofs.shelf.Tests.{cond-true}
 use Rattle.theory.specs.Loops.{Stages}
@@ -17,7 +16,7 @@ use Rattle.graph.specs.declared.fault.Fault.{Fault}
 use Rattle.graph.specs.Graphs.{PlainGraph, live-of}
 use Rattle.price.specs.Costs.{price-at}
 use Rattle.sheet_format.specs.Entries.{Entry, stage, link, live, fields-in, stages-in}
-use Rattle.sheet_format.specs.Layout.{Contents, Laid-out}
+use Rattle.sheet_format.specs.Layout.{Contents}
 use Rattle.sheet_format.specs.Promise.{Reads-the-layout}
 use Rattle.sheet_format.specs.Reading.{check, read-of, then}
 use Rattle.sheet.specs.Filings.{Filing}

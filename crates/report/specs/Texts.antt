@@ -1,21 +1,19 @@
 -- The text of a sheet.
 use mathlib.Core.Path.{_≡_}
 use mathlib.Core.Bool.{Bool, true, false, _&&_, cond, not}
-use mathlib.Core.List.{List, [], _∷_, _++_, map}
+use mathlib.Core.List.{List, [], _++_, map}
 use Prim.Native.Nat.{ℕ, _+_}
 use lib.Chars.{codes}
 use lib.Dec.{eqb, ltb}
 use lib.ListN.{getD, length}
 use Rattle.std.specs.declared.option.Option.{Option}
-use Rattle.std.specs.declared.option.Option.the-variants.{Some, None}
+use Rattle.std.specs.declared.option.Option.the-variants.{None}
 use Rattle.std.specs.declared.result.Result.{Result}
 use Rattle.std.specs.declared.result.Result.the-variants.{Ok, Err}
 use Rattle.theory.specs.Loops.{Stages}
 use Rattle.theory.specs.Prices.{Kind, cost}
 use Rattle.graph.specs.declared.fault.Fault.{Fault}
 use Rattle.graph.specs.Graphs.{PlainGraph, live-of}
-use Rattle.price.specs.declared.count.Count.{Count}
-use Rattle.price.specs.declared.memory.Memory.{Memory}
 use Rattle.price.specs.Costs.{price-at}
 use Rattle.price.specs.Counts.{counts}
 use Rattle.price.specs.Memories.{memories}

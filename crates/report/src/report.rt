@@ -10,7 +10,7 @@ ghost use Rattle.std.specs.declared.result.Result.the-variants.{Ok};
 ghost use Rattle.graph.specs.Graphs.{plain};
 ghost use Rattle.sheet_format.specs.Layout.{Contents};
 ghost use Rattle.sheet_format.specs.Reading.{read-of};
-ghost use Rattle.report.specs.Lines.{figures-text, refusal-line};
+ghost use Rattle.report.specs.Lines.{refusal-line};
 ghost use Rattle.report.specs.Texts.{holds-text, plan-text, price-line, sheet-text};
 use crate::lines::figures;
 use crate::lines::price_start;

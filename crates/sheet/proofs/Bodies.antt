@@ -1,16 +1,15 @@
 -- Record bodies, as the code finds them.
-use mathlib.Core.Path.{_≡_, refl, sym, _∙_, ap}
-use mathlib.Core.Bool.{Bool, true, false, _&&_}
+use mathlib.Core.Path.{_≡_, sym, _∙_, ap}
+use mathlib.Core.Bool.{true, false, _&&_}
 use mathlib.Core.List.{List, [], _∷_}
-use Prim.Native.Nat.{ℕ, _+_, _-_, _<_, _≤_}
+use Prim.Native.Nat.{ℕ, _-_, _≤_}
 use native.Mathlib.Omega.{arith}
-use lib.Dec.{eqb, leb, ltb}
+use lib.Dec.{eqb, leb}
 use lib.ListN.{drop, getD, length, take}
-use Rattle.std.specs.declared.option.Option.{Option}
 use Rattle.std.specs.declared.option.Option.the-variants.{Some, None}
 use Rattle.std.proofs.shelf.Lists.{take-all}
 use Rattle.std.proofs.shelf.Ways.{tells}
-use Rattle.sheet_format.specs.Entries.{Entry, stage, printable}
+use Rattle.sheet_format.specs.Entries.{stage, printable}
 use Rattle.sheet_format.specs.Reading.{by-tag, entry-of, is-stage, stage-of}
 
 pub printable-more : (b : ℕ) (bs : List ℕ) → (leb 0x21 b && leb b 0x7E) ≡ true → printable (b ∷ bs) ≡ printable bs

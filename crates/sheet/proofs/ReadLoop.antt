@@ -11,7 +11,6 @@ use Rattle.std.specs.declared.result.Result.{Result}
 use Rattle.std.specs.declared.result.Result.the-variants.{Ok, Err}
 use Rattle.graph.specs.declared.fault.Fault.{Fault}
 use Rattle.graph.specs.declared.graph.Graph.{Graph}
-use Rattle.sheet_format.specs.Entries.{Entry}
 use Rattle.sheet_format.specs.Layout.{Contents}
 use Rattle.sheet_format.specs.Reading.{frame-of, no-contents, read-of, records-from, taken-in, then}
 use Rattle.sheet.specs.declared.reader.Reader.{Reader}

@@ -1,10 +1,12 @@
 -- Reading accepts exactly what is laid out, and refuses with the first fault.
 use mathlib.Core.Path.{_≡_, refl, sym, _∙_, ap, subst}
 use mathlib.Core.List.{List, [], _∷_, _++_, append-nil}
+use mathlib.Core.Logic.{_⊎_, inl, inr}
 use Prim.Native.Nat.{ℕ, _+_}
 use native.Mathlib.Nat.{le-refl}
 use native.Mathlib.Omega.{arith}
 use lib.ListN.{drop, length}
+use Rattle.std.specs.declared.result.Result.{Result}
 use Rattle.std.specs.declared.result.Result.the-variants.{Ok, Err}
 use Rattle.graph.specs.declared.fault.Cause.the-variants.{RecordBody}
 use Rattle.graph.specs.declared.fault.Fault.{Fault}
@@ -76,9 +78,28 @@ module _ (code width : ℕ) (bytes : List ℕ) where
       (taken-one (step es (run .contents) (run .says) (place + 1) e) (refused cause un))
       ∙ ap (λ p. Err (at cause Graph p)) tag
 
+-- an answer is contents or a fault, and not two
+either : (code width : ℕ) (bytes : List ℕ) (r : Result Contents Fault) → Verdict code width bytes r
+    → ((c : Contents) × Laid-out code width bytes c) ⊎ ((f : Fault) × Refused code width bytes f)
+either code width bytes (Ok c) v = inl (c, v)
+either code width bytes (Err f) v = inr (f, v)
+
+same-contents : (c d : Contents) → _≡_ {A = Result Contents Fault} (Ok c) (Ok d) → c ≡ d
+same-contents c d e = cc
+
+same-fault : (f g : Fault) → _≡_ {A = Result Contents Fault} (Err f) (Err g) → f ≡ g
+same-fault f g e = cc
+
+not-two : (c : Contents) (f : Fault) → _≡_ {A = Result Contents Fault} (Ok c) (Err f) → ⊥
+not-two c f e = let z : _≡_ {A = ℕ} 0 1 = cc in omega arith
+
 pub reading-accepts-exactly-the-layout : Reading-accepts-exactly-the-layout
 reading-accepts-exactly-the-layout code width bytes =
     record {
       reads-what-is-laid-out = λ c. (λ e. subst (Verdict code width bytes) e (read-judged code width bytes), laid-out-read code width bytes c);
       refuses-the-first-fault = λ f. (λ e. subst (Verdict code width bytes) e (read-judged code width bytes), refused-read code width bytes f);
+      laid-out-or-faulty = either code width bytes (read-of code width bytes) (read-judged code width bytes);
+      never-both = λ c f l r. not-two c f (sym (laid-out-read code width bytes c l) ∙ refused-read code width bytes f r);
+      one-contents = λ c d l m. same-contents c d (sym (laid-out-read code width bytes c l) ∙ laid-out-read code width bytes d m);
+      one-fault = λ f g r s. same-fault f g (sym (refused-read code width bytes f r) ∙ refused-read code width bytes g s);
     }

@@ -1,6 +1,6 @@
 -- How a sheet is laid out.
 use mathlib.Core.Path.{_≡_}
-use mathlib.Core.Bool.{false, true}
+use mathlib.Core.Bool.{false}
 use mathlib.Core.List.{List, [], _∷_}
 use Prim.Native.Nat.{ℕ, _+_, _*_, _<_, _≤_}
 use lib.ListN.{length}

@@ -1,6 +1,5 @@
 -- Reading a sheet as a program, layer by layer: frame, record, graph.
-use mathlib.Core.Path.{_≡_}
-use mathlib.Core.Bool.{Bool, true, false, _&&_, _||_, not}
+use mathlib.Core.Bool.{Bool, true, false, _&&_}
 use mathlib.Core.List.{List, [], _∷_, _++_}
 use Prim.Native.Nat.{ℕ, zero, suc, _+_, _*_}
 use lib.Dec.{eqb, leb, ltb}
@@ -13,7 +12,7 @@ use Rattle.graph.specs.declared.fault.Cause.{Cause}
 use Rattle.graph.specs.declared.fault.Cause.the-variants.{Version, Size, Kind, RecordLength, RecordBody}
 use Rattle.graph.specs.declared.fault.Fault.{Fault}
 use Rattle.graph.specs.declared.fault.Layer.the-variants.{Frame, Record, Graph}
-use Rattle.graph.specs.Graphs.{PlainGraph, bare, link-refusal, linked-too, live-refusal, live-too, one-more, stage-refusal}
+use Rattle.graph.specs.Graphs.{bare, link-refusal, linked-too, live-refusal, live-too, one-more, stage-refusal}
 use Rattle.sheet_format.specs.Entries.{Entry, stage, link, live, printable}
 use Rattle.sheet_format.specs.Layout.{Contents}
 use Rattle.sheet_format.specs.Faulty.{at}

@@ -1,13 +1,13 @@
 -- A closed walk holds a loop, so a set breaks a graph exactly if no closed walk avoids it.
-use mathlib.Core.Path.{_≡_, refl, sym, _∙_, subst}
-use mathlib.Core.Bool.{Bool, true, false, _&&_, _||_, not}
-use mathlib.Core.List.{List, [], _∷_, _++_}
-use mathlib.Core.Logic.{_↔_, _⊎_, inl, inr}
+use mathlib.Core.Path.{_≡_, refl, sym, subst}
+use mathlib.Core.Bool.{true, false}
+use mathlib.Core.List.{List, [], _∷_}
+use mathlib.Core.Logic.{_⊎_, inl, inr}
 use Prim.Native.Nat.{ℕ}
 use lib.Dec.{eqb}
-use Rattle.std.proofs.shelf.Tests.{both-ways, eqb-true, cases-bool, and-from, and-parts, or-parts, or-cases, or-from, not-from-false, eq-eqb}
+use Rattle.std.proofs.shelf.Tests.{both-ways, eqb-true, cases-bool, and-from, and-parts, or-parts, or-cases, or-from, not-from-false}
 use Rattle.theory.specs.Loops.{Links, Stages, Chain, among, different, meets, Link, Loop, Breaks}
-use Rattle.theory.specs.Walks.{Free, Walk, ClosedWalk, Breaks-iff-no-closed-walk-avoids}
+use Rattle.theory.specs.Walks.{Free, ClosedWalk, Breaks-iff-no-closed-walk-avoids}
 
 -- a walk without repeated stages
 abbrev pub Simple : (ℕ → ℕ → Type 0) → ℕ → ℕ → Type 0

@@ -23,7 +23,8 @@ impl Graph {
         Ok(())
     }
 
-    /// Links one stage to another.
+    /// Links one stage to another. Refused where one is no stage, the link is there, or live stages alone would
+    /// contain a loop.
     pub fn link(&mut self, from: u8, to: u8, site: Site) -> Result<(), Fault>
         ensures answer { λ r. ⌜ r ≡ answer (link-refusal (plain (now (self .entry))) from to) site ⌝ }
         ensures after { λ _. ⌜ plain (now (self .exit)) ≡ after (link-refusal (plain (now (self .entry))) from to) (plain (now (self .entry))) (linked-too (plain (now (self .entry))) from to) ⌝ }
@@ -45,7 +46,7 @@ impl Graph {
         Ok(())
     }
 
-    /// Takes the link from one stage to another off.
+    /// Takes the link from one stage to another off. Refused where one is no stage or the link is not there.
     pub fn unlink(&mut self, from: u8, to: u8, site: Site) -> Result<(), Fault>
         ensures answer { λ r. ⌜ r ≡ answer (unlink-refusal (plain (now (self .entry))) from to) site ⌝ }
         ensures after { λ _. ⌜ plain (now (self .exit)) ≡ after (unlink-refusal (plain (now (self .entry))) from to) (plain (now (self .entry))) (unlinked (plain (now (self .entry))) from to) ⌝ }
@@ -62,7 +63,7 @@ impl Graph {
         Ok(())
     }
 
-    /// Marks a stage live.
+    /// Marks a stage live. Refused where it is no stage, is live, or live stages alone would contain a loop.
     pub fn mark_live(&mut self, stage: u8, site: Site) -> Result<(), Fault>
         ensures answer { λ r. ⌜ r ≡ answer (live-refusal (plain (now (self .entry))) stage) site ⌝ }
         ensures after { λ _. ⌜ plain (now (self .exit)) ≡ after (live-refusal (plain (now (self .entry))) stage) (plain (now (self .entry))) (live-too (plain (now (self .entry))) stage) ⌝ }
@@ -82,7 +83,7 @@ impl Graph {
         Ok(())
     }
 
-    /// Takes the live mark of a stage off.
+    /// Takes the live mark of a stage off. Refused where it is no stage or not live.
     pub fn free(&mut self, stage: u8, site: Site) -> Result<(), Fault>
         ensures answer { λ r. ⌜ r ≡ answer (free-refusal (plain (now (self .entry))) stage) site ⌝ }
         ensures after { λ _. ⌜ plain (now (self .exit)) ≡ after (free-refusal (plain (now (self .entry))) stage) (plain (now (self .entry))) (freed (plain (now (self .entry))) stage) ⌝ }

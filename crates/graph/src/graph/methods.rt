@@ -1,9 +1,9 @@
-ghost use mathlib.Core.Bool.{false, _&&_, not};
+ghost use mathlib.Core.Bool.{_&&_, not};
 ghost use mathlib.Core.Path.{_≡_};
-ghost use Prim.Native.Nat.{ℕ, _<_, _≤_};
+ghost use Prim.Native.Nat.{ℕ};
 ghost use lib.Dec.{ltb};
 ghost use Rattle.std.specs.Options.{mapped};
-ghost use Rattle.graph.specs.Graphs.{bare, links-of, live-of, plain, sized};
+ghost use Rattle.graph.specs.Graphs.{bare, live-of, plain, sized};
 ghost use Rattle.graph.specs.StageSets.{stages};
 use super::Graph;
 use crate::digraph::Digraph;

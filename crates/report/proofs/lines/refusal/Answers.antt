@@ -1,4 +1,3 @@
-use mathlib.Core.Path.{_≡_, sym, _∙_, ap}
 use borrow.Author.Needs.{needs}
 use Rattle.report.proofs.lines.refusal.Needs as need
 

@@ -1,4 +1,4 @@
-use mathlib.Core.Path.{_≡_, refl, _∙_}
+use mathlib.Core.Path.{refl, _∙_}
 use lib.Chars.{codes}
 use Rattle.std.specs.Of.Vec.{vec-items}
 use Rattle.report.proofs.LineParts.{hold-joined, pushed-three}

@@ -1,7 +1,6 @@
-use mathlib.Core.Path.{_≡_, sym, _∙_, ap}
+use mathlib.Core.Path.{_∙_, ap}
 use mathlib.Core.List.{_++_}
 use lib.Chars.{codes}
-use Rattle.std.specs.Of.Vec.{vec-items}
 use Rattle.graph.specs.Graphs.{plain}
 use Rattle.graph.specs.StageSets.{stages}
 use Rattle.report.specs.Lines.{hold-lines}

@@ -1,5 +1,4 @@
-use mathlib.Core.Path.{_≡_, refl, sym, _∙_, ap}
-use Rattle.std.specs.Of.Vec.{vec-items}
+use mathlib.Core.Path.{_∙_}
 use Rattle.std.proofs.shelf.Results.{made-weaker}
 use Rattle.graph.specs.Graphs.{plain}
 use Rattle.report.proofs.Reports.{read-out}

@@ -1,10 +1,9 @@
-use mathlib.Core.Path.{_≡_, refl, sym, _∙_, ap, subst}
+use mathlib.Core.Path.{_≡_, refl, sym, _∙_, ap}
 use lib.ListN.{drop}
 use Rattle.std.specs.declared.result.Result.the-variants.{Ok, Err}
 use Rattle.std.specs.declared.option.Option.the-variants.{Some}
 use Rattle.std.proofs.shelf.Results.{err-from-errBy}
 use Rattle.sheet_format.specs.Reading.{no-contents, records-from, taken-in}
-use Rattle.sheet.specs.Readings.{Took}
 use Rattle.sheet.specs.Records.{entry-told}
 use Rattle.sheet.proofs.ReadLoop.{faulty, found-less, found-place, framed, made-err, made-ok, no-more, over-still, taken-not, taken-on, took-not, took-ok, unframed}
 use Rattle.sheet.proofs.reading.«graph_of».Needs as need

@@ -1,8 +1,7 @@
-use mathlib.Core.Path.{_≡_, refl, sym, _∙_, ap, subst}
-use lib.ListN.{drop, length}
-use Rattle.std.specs.declared.result.Result.the-variants.{Ok, Err}
+use mathlib.Core.Path.{_≡_, refl, sym, _∙_, ap}
+use lib.ListN.{drop}
+use Rattle.std.specs.declared.result.Result.the-variants.{Ok}
 use Rattle.std.specs.declared.option.Option.the-variants.{Some}
-use Rattle.std.proofs.shelf.Results.{err-from-errBy}
 use Rattle.sheet_format.specs.Reading.{no-contents, records-from}
 use Rattle.sheet.proofs.PriceSteps.{all-written, as-written, none-read, written-on}
 use Rattle.sheet.proofs.ReadLoop.{found-less, framed, over-still, unframed}

@@ -1,4 +1,4 @@
-use mathlib.Core.Path.{_≡_, refl, sym, _∙_, ap, subst}
+use mathlib.Core.Path.{sym, subst}
 use Rattle.sheet_format.specs.Reading.{taken-in}
 use Rattle.sheet.specs.Readings.{Took}
 use Rattle.sheet.specs.Records.{entry-told}

@@ -1,10 +1,10 @@
-use mathlib.Core.Path.{_≡_, refl, sym, _∙_, ap, subst}
+use mathlib.Core.Path.{refl}
 use mathlib.Core.Logic.{inl, inr, ⊎-elim}
-use Prim.Native.Nat.{ℕ, _<_, _≤_, _^_}
+use Prim.Native.Nat.{_<_, _≤_}
 use native.Mathlib.Omega.{arith}
 use Rattle.std.proofs.shelf.Bits.{one-shl}
 use Rattle.std.proofs.shelf.Ways.{tells}
-use Rattle.graph.proofs.Rows.{Rows, no-link-past, rows-of, without-mark-links, without-mark-rows}
+use Rattle.graph.proofs.Rows.{no-link-past, rows-of, without-mark-links, without-mark-rows}
 use Rattle.graph.proofs.digraph.Digraph.«drop_link».Needs as need
 
 pub returns-then-from-ge64 : need.returns-then-from-ge64

@@ -1,6 +1,5 @@
-use mathlib.Core.Path.{_≡_, sym, _∙_}
+use mathlib.Core.Path.{sym}
 use mathlib.Core.Logic.{inl, inr, ⊎-elim}
-use native.Mathlib.Omega.{arith}
 use Prim.Native.Nat.{_<_, _≤_}
 use Rattle.graph.proofs.Rows.{past-rows, rows-of}
 use Rattle.graph.proofs.digraph.Digraph.«is_linked».Needs as need

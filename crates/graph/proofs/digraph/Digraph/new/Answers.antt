@@ -1,4 +1,4 @@
-use mathlib.Core.Path.{refl, sym, _∙_}
+use mathlib.Core.Path.{refl}
 use Rattle.std.proofs.shelf.Tests.{both-ways}
 use Rattle.graph.proofs.Rows.{no-rows, unlinked-rows}
 use Rattle.graph.proofs.digraph.Digraph.new.Needs as need

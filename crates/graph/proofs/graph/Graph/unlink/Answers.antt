@@ -1,18 +1,10 @@
-use mathlib.Core.Path.{_≡_, refl, sym, _∙_, ap, subst}
-use mathlib.Core.Bool.{Bool, true, false, not, _&&_}
-use mathlib.Core.Logic.{⊎-elim}
-use Prim.Native.Nat.{ℕ, _<_, _≤_, _^_}
+use mathlib.Core.Path.{refl, sym, _∙_, ap}
 use native.Mathlib.Omega.{arith}
-use lib.Dec.{ltb}
 use Rattle.std.specs.declared.option.Option.the-variants.{None, Some}
-use Rattle.std.specs.declared.result.Result.the-variants.{Err, Ok}
-use Rattle.std.proofs.shelf.Tests.{and-from, and-left, and-right, both-ways, lt-ltb, le-ltb, not-from-true, not-from-false}
-use Rattle.std.proofs.shelf.Ways.{same-from-decides, tells}
-use Rattle.theory.specs.Loops.{between}
-use Rattle.graph.specs.declared.fault.Cause.the-variants.{AlreadyThere, LiveLoop, NoSuchStage, NotThere}
-use Rattle.graph.specs.Faults.{answer}
-use Rattle.graph.specs.Graphs.{plain, linked-too, live-looped, live-too, links-of, live-of}
-use Rattle.graph.specs.Marks.{linked, marked}
+use Rattle.std.specs.declared.result.Result.the-variants.{Err}
+use Rattle.std.proofs.shelf.Tests.{and-from, lt-ltb}
+use Rattle.std.proofs.shelf.Ways.{tells}
+use Rattle.graph.specs.declared.fault.Cause.the-variants.{NoSuchStage, NotThere}
 use Rattle.graph.proofs.Edits.{absent-end, dropped-rows, fewer-links, goes-on, same-plain, stops, unlink-post}
 use Rattle.graph.proofs.graph.Graph.unlink.Needs as need
 

@@ -1,5 +1,5 @@
 use native.Mathlib.Omega.{arith}
-use mathlib.Core.Path.{_≡_, _∙_, sym}
+use mathlib.Core.Path.{_∙_, sym}
 use Rattle.std.proofs.shelf.Tests.{le-ltb}
 use Rattle.graph.proofs.Marks.{marked-past, marked-test}
 use Rattle.graph.proofs.stage_set.StageSet.has.Needs as need

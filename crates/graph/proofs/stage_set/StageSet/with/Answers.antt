@@ -1,5 +1,5 @@
 use native.Mathlib.Omega.{arith}
-use mathlib.Core.Path.{_≡_, _∙_}
+use mathlib.Core.Path.{_∙_}
 use Rattle.std.proofs.shelf.Ways.{tells}
 use lib.Bits.{or-lt}
 use Rattle.graph.proofs.Marks.{marked-or}

@@ -1,5 +1,5 @@
 use native.Mathlib.Omega.{arith}
-use mathlib.Core.Path.{_≡_, _∙_}
+use mathlib.Core.Path.{_∙_}
 use Rattle.std.proofs.shelf.Ways.{tells}
 use Rattle.graph.proofs.Marks.{marked-minus, marked-past}
 use Rattle.graph.proofs.stage_set.StageSet.without.Needs as need

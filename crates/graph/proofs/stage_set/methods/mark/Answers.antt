@@ -1,7 +1,5 @@
 use Rattle.graph.proofs.Marks.{marked-none, mark-is}
-use mathlib.Core.Path.{_≡_}
 use native.Mathlib.Omega.{arith}
-use Rattle.std.proofs.shelf.Tests.{le-ltb}
 use Rattle.std.proofs.shelf.Ways.{tells}
 use Rattle.graph.proofs.stage_set.methods.mark.Needs as need
 

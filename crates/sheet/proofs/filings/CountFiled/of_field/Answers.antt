@@ -1,4 +1,3 @@
-use mathlib.Core.Path.{refl}
 use Rattle.price.specs.Counts.{count}
 use Rattle.price.proofs.CountLaws.{count-same}
 use Rattle.sheet.proofs.filings.CountFiled.«of_field».Needs as need

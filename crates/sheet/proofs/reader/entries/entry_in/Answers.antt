@@ -1,6 +1,5 @@
-use mathlib.Core.Path.{_≡_, refl, sym, _∙_, ap}
+use mathlib.Core.Path.{_≡_, _∙_, ap}
 use borrow.Author.Needs.{needs}
-use native.Mathlib.Omega.{arith}
 use lib.ListN.{drop, length, take}
 use Prim.Native.Nat.{_-_}
 use Rattle.sheet_format.specs.Reading.{entry-of, formed-or, is-stage, stage-of}
