@@ -23,6 +23,7 @@ use Rattle.graph.specs.declared.fault.Cause.{Cause}
 use Rattle.graph.specs.declared.fault.Cause.the-variants.{NoSuchStage, AlreadyThere, LiveLoop, NotThere}
 use Rattle.graph.specs.declared.fault.Fault.{Fault}
 use Rattle.graph.specs.declared.fault.Site.{Site}
+use Rattle.graph.specs.declared.fault.Site.the-variants.{Record as AtRecord, Call as AtCall}
 use Rattle.graph.specs.declared.digraph.Digraph.{Digraph}
 use Rattle.graph.specs.declared.graph.Graph.{Graph}
 use Rattle.graph.specs.declared.stage_set.StageSet.{StageSet}
@@ -113,8 +114,10 @@ takes-off true true there present d e =
 
 -- ---- answers, and the causes in them
 pub cause-answer : (o : Option Cause) (site : Site) → cause-of (answer o site) ≡ o
-cause-answer None site = refl
-cause-answer (Some c) site = refl
+cause-answer None (AtRecord place) = refl
+cause-answer None AtCall = refl
+cause-answer (Some c) (AtRecord place) = refl
+cause-answer (Some c) AtCall = refl
 
 pub after-none : {S : Type 0} (o : Option Cause) (before made : S) → o ≡ None → after o before made ≡ made
 after-none o before made e = ap (λ x. after x before made) e

@@ -12,10 +12,11 @@ use Rattle.graph.specs.declared.fault.Cause.{Cause}
 use Rattle.graph.specs.declared.fault.Cause.the-variants.{NoSuchStage, AlreadyThere, LiveLoop, NotThere}
 use Rattle.graph.specs.Graphs.{PlainGraph, links-of, live-of}
 
--- The set with one stage more, and with one stage less.
+-- The set with one stage more.
 abbrev pub with-stage : Stages → ℕ → Stages
 with-stage S v s = S s || eqb s v
 
+-- The set with one stage less.
 abbrev pub without-stage : Stages → ℕ → Stages
 without-stage S v s = S s && not (eqb s v)
 

@@ -8,7 +8,9 @@ use Rattle.std.specs.declared.result.Result.the-variants.{Ok, Err}
 use Rattle.graph.specs.declared.fault.Cause.{Cause}
 use Rattle.graph.specs.declared.fault.Cause.the-variants.{Version, Size, Kind, RecordLength, RecordBody, TooManyStages, NoSuchStage, AlreadyThere, LiveLoop, NotThere, TablesTooSmall, OtherStageCount, OutputTooShort}
 use Rattle.graph.specs.declared.fault.Fault.{Fault}
+use Rattle.graph.specs.declared.fault.Layer.the-variants.{Graph, Call}
 use Rattle.graph.specs.declared.fault.Site.{Site}
+use Rattle.graph.specs.declared.fault.Site.the-variants.{Record as AtRecord, Call as AtCall}
 
 -- The number of a cause.
 abbrev pub number : Cause → ℕ
@@ -26,9 +28,11 @@ number TablesTooSmall = 11
 number OtherStageCount = 12
 number OutputTooShort = 13
 
--- The fault of a cause at a site.
+-- The fault of an edit that is refused for this cause: at a record of a sheet, the graph layer's at its tag byte;
+-- in a call, the call layer's at 0.
 abbrev pub fault : Cause → Site → Fault
-fault cause site = record { cause = cause; layer = site .layer; place = site .place }
+fault cause (AtRecord place) = record { cause = cause; layer = Graph; place = place }
+fault cause AtCall = record { cause = cause; layer = Call; place = 0 }
 
 -- The cause, unless the test passes; then what the later tests find.
 abbrev pub unless : Bool → Cause → Option Cause → Option Cause

@@ -72,6 +72,7 @@ bare n = record { n = n; rows = replicate 64 0; live = 0 }
 abbrev pub one-more : PlainGraph → PlainGraph
 one-more g = record { n = g .n + 1; rows = g .rows; live = g .live }
 
+-- Why a stage more is refused, if it is: there are 64.
 abbrev pub stage-refusal : PlainGraph → Option Cause
 stage-refusal g = unless (ltb (g .n) 64) TooManyStages None
 
@@ -79,6 +80,7 @@ stage-refusal g = unless (ltb (g .n) 64) TooManyStages None
 abbrev pub linked-too : PlainGraph → ℕ → ℕ → PlainGraph
 linked-too g u v = record { n = g .n; rows = set (g .rows) u (with-mark (getD (g .rows) u 0) v); live = g .live }
 
+-- Why linking u to v is refused, if it is: one is no stage, the link is there, or live stages alone would contain a loop.
 abbrev pub link-refusal : PlainGraph → ℕ → ℕ → Option Cause
 link-refusal g u v =
     unless (ltb u (g .n) && ltb v (g .n)) NoSuchStage
@@ -88,6 +90,7 @@ link-refusal g u v =
 abbrev pub unlinked : PlainGraph → ℕ → ℕ → PlainGraph
 unlinked g u v = record { n = g .n; rows = set (g .rows) u (without-mark (getD (g .rows) u 0) v); live = g .live }
 
+-- Why taking the link from u to v off is refused, if it is: one is no stage, or the link is not there.
 abbrev pub unlink-refusal : PlainGraph → ℕ → ℕ → Option Cause
 unlink-refusal g u v = unless (ltb u (g .n) && ltb v (g .n)) NoSuchStage (unless (links-of g u v) NotThere None)
 
@@ -95,6 +98,7 @@ unlink-refusal g u v = unless (ltb u (g .n) && ltb v (g .n)) NoSuchStage (unless
 abbrev pub live-too : PlainGraph → ℕ → PlainGraph
 live-too g s = record { n = g .n; rows = g .rows; live = with-mark (g .live) s }
 
+-- Why marking stage s live is refused, if it is: it is no stage, it is live, or live stages alone would contain a loop.
 abbrev pub live-refusal : PlainGraph → ℕ → Option Cause
 live-refusal g s =
     unless (ltb s (g .n)) NoSuchStage
@@ -104,6 +108,7 @@ live-refusal g s =
 abbrev pub freed : PlainGraph → ℕ → PlainGraph
 freed g s = record { n = g .n; rows = g .rows; live = without-mark (g .live) s }
 
+-- Why taking the live mark of stage s off is refused, if it is: it is no stage, or it is not live.
 abbrev pub free-refusal : PlainGraph → ℕ → Option Cause
 free-refusal g s = unless (ltb s (g .n)) NoSuchStage (unless (live-of g s) NotThere None)
 

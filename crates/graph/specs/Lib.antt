@@ -5,3 +5,4 @@ pub mod Digraphs
 pub mod Faults
 pub mod Graphs
 pub mod Edits
+pub mod Plans

@@ -1,9 +1,9 @@
-//! Why a request is refused, and where.
+//! Why a sheet or a call is refused, and where.
 
 ghost use mathlib.Core.Path.{_≡_};
 ghost use Rattle.graph.specs.Faults.{fault, number};
 
-/// Why a request is refused. Each cause has its number.
+/// Why a sheet or a call is refused. Each cause has its number.
 #[derive(Clone, Copy, PartialEq, Eq)]
 pub enum Cause {
     /// 1: the sheet is empty, or its version is unknown.
@@ -43,11 +43,11 @@ pub enum Layer {
     Call,
 }
 
-/// Where a refusal is reported: a layer and a byte place of the sheet, 0 in a call.
+/// Where an edit of a graph is asked for: by a record of a sheet, whose tag byte stands at this place, or by a call.
 #[derive(Clone, Copy, PartialEq, Eq)]
-pub struct Site {
-    pub layer: Layer,
-    pub place: usize,
+pub enum Site {
+    Record(usize),
+    Call,
 }
 
 /// A refusal: its cause, and the layer and place that it is reported at.
@@ -80,14 +80,22 @@ impl Cause {
         }
     }
 
-    /// The fault of this cause at a site.
+    /// The fault of an edit that is refused for this cause: the graph layer's at a record's tag byte, or the call
+    /// layer's at 0.
     pub fn at(self, site: Site) -> Fault
         ensures { λ r. ⌜ r ≡ fault self site ⌝ }
     {
-        Fault {
-            cause: self,
-            layer: site.layer,
-            place: site.place,
+        match site {
+            Site::Record(place) => Fault {
+                cause: self,
+                layer: Layer::Graph,
+                place,
+            },
+            Site::Call => Fault {
+                cause: self,
+                layer: Layer::Call,
+                place: 0,
+            },
         }
     }
 }

@@ -3,4 +3,5 @@
 pub mod digraph;
 pub mod fault;
 pub mod graph;
+pub mod plans;
 pub mod stage_set;

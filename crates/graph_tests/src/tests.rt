@@ -1,6 +1,5 @@
 use graph::fault::Cause;
 use graph::fault::Fault;
-use graph::fault::Layer;
 use graph::fault::Site;
 use graph::graph::Graph;
 
@@ -9,11 +8,8 @@ mod edits;
 mod live_marks;
 mod stage_sets;
 
-// Where the edits of these tests are reported.
-const SITE: Site = Site {
-    layer: Layer::Record,
-    place: 40,
-};
+// Where the edits of these tests are asked for.
+const SITE: Site = Site::Record(40);
 
 // The graph of `n` stages with no links and no live marks, or `n` where there is none.
 fn bare(n: u8) -> Result<Graph, u8> {
@@ -22,9 +18,5 @@ fn bare(n: u8) -> Result<Graph, u8> {
 
 // The refusal for this cause at that site.
 fn refused(cause: Cause) -> Result<(), Fault> {
-    Err(Fault {
-        cause,
-        layer: Layer::Record,
-        place: 40,
-    })
+    Err(cause.at(SITE))
 }

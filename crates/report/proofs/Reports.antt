@@ -13,7 +13,8 @@ use Rattle.std.proofs.shelf.Tests.{cond-true}
 use Rattle.theory.specs.Loops.{Stages}
 use Rattle.theory.specs.Prices.{Kind, cost}
 use Rattle.graph.specs.declared.fault.Fault.{Fault}
-use Rattle.graph.specs.Graphs.{PlainGraph, live-of}
+use Rattle.graph.specs.Graphs.{PlainGraph}
+use Rattle.graph.specs.Plans.{not-live}
 use Rattle.price.specs.Costs.{price-at}
 use Rattle.sheet_format.specs.Entries.{Entry, stage, link, live, fields-in, stages-in}
 use Rattle.sheet_format.specs.Layout.{Contents}
@@ -23,7 +24,7 @@ use Rattle.sheet.specs.Filings.{Filing}
 use Rattle.sheet.specs.Readings.{graph-after, left-after, prices-after, read-answer, room-for}
 use Rattle.sheet.proofs.RecordSteps.{ok-not-err, then-ok}
 use Rattle.report.specs.Lines.{hold-lines}
-use Rattle.report.specs.Texts.{all-held, not-live, outcome-text, plan-text, price-line, sheet-text}
+use Rattle.report.specs.Texts.{all-held, outcome-text, plan-text, price-line, sheet-text}
 
 -- each stage has a field
 fields-each : (es : List Entry) → length (fields-in es) ≡ stages-in es
@@ -37,7 +38,7 @@ passed-check true f e = refl
 passed-check false f e = ok-not-err tt f (sym e)
 
 -- the stages that are not live, as a set
-pub same-held : (g : PlainGraph) (c : Contents) (held : Stages) → g ≡ c .graph → ((s : ℕ) → held s ≡ (ltb s (g .n) && not (live-of g s))) → held ≡ not-live (c .graph)
+pub same-held : (g : PlainGraph) (c : Contents) (held : Stages) → g ≡ c .graph → ((s : ℕ) → held s ≡ not-live g s) → held ≡ not-live (c .graph)
 same-held g c held e is = fun-ext is ∙ ap not-live e
 
 module _ {P : Type 0} (K : Kind P) (F : Filing P) where

@@ -13,7 +13,7 @@ use Rattle.std.specs.declared.result.Result.the-variants.{Ok, Err}
 use Rattle.theory.specs.Loops.{Stages}
 use Rattle.theory.specs.Prices.{Kind, cost}
 use Rattle.graph.specs.declared.fault.Fault.{Fault}
-use Rattle.graph.specs.Graphs.{PlainGraph, live-of}
+use Rattle.graph.specs.Plans.{not-live}
 use Rattle.price.specs.Costs.{price-at}
 use Rattle.price.specs.Counts.{counts}
 use Rattle.price.specs.Memories.{memories}
@@ -28,10 +28,6 @@ use Rattle.sheet.specs.Records.{Steps}
 use Rattle.report.specs.Lines.{figures-text, hold-line, hold-lines, refusal-line}
 
 -- ---- what is printed
-
--- The stages of a graph that are not live.
-abbrev pub not-live : PlainGraph → Stages
-not-live g s = ltb s (g .n) && not (live-of g s)
 
 module _ {P : Type 0} (K : Kind P) (F : Filing P) where
   -- A price after a word, as a line.
@@ -60,6 +56,7 @@ module _ {P : Type 0} (K : Kind P) (F : Filing P) where
   sheet-text bytes room =
       outcome-text (then (read-of (F .code) (F .width) bytes) (λ c. then (room-for (c .graph .n) room) (λ _. Ok c)))
 
+-- The text by whether the sheet is of the kind Memory.
 abbrev pub text-by : Bool → List ℕ → List ℕ
 text-by true bytes = sheet-text memories memory-filing bytes 64
 text-by false bytes = sheet-text counts count-filing bytes 64
@@ -79,12 +76,13 @@ record-in (Err f) = None
 abbrev pub Follows : Reader → Reader → Option Record → Type 0
 Follows r s o = (x : Result (Option Record) Fault) × Steps r s x × (o ≡ record-in x)
 
--- The line that a record adds, where s stages came before, and how many have come after it.
+-- The line that a record adds, where s stages came before it.
 abbrev pub entry-lines : Stages → ℕ → Entry → List ℕ
 entry-lines held s (stage field name) = cond (held s) (hold-line s name) []
 entry-lines held s (link u v) = []
 entry-lines held s (live t) = []
 
+-- How many stages have come after a record, where s came before it.
 abbrev pub stages-after : ℕ → Entry → ℕ
 stages-after s (stage field name) = s + 1
 stages-after s (link u v) = s

@@ -76,7 +76,7 @@ fn refused(heap: Global, fault: Fault) -> Result<Vec<u8>, AllocError>
 }
 
 /// The text of a sheet of the price kind `P`, read with this table of prices.
-pub fn sheet_report<P: FiledPrice>(
+fn sheet_report<P: FiledPrice>(
     heap: Global,
     sheet: &[u8],
     prices: &mut [P],

@@ -6,3 +6,4 @@ pub mod RecordSteps
 pub mod ReadLoop
 pub mod PriceSteps
 pub mod ReadPost
+pub mod Names

@@ -19,7 +19,7 @@ use Rattle.sheet_format.specs.Promise.{Reads-the-layout}
 use Rattle.sheet_format.specs.Reading.{check, read-of, then}
 use Rattle.sheet_format.proofs.Reading.{reading-accepts-exactly-the-layout}
 use Rattle.sheet.specs.Filings.{Filing}
-use Rattle.sheet.specs.Readings.{Made, Pictures, graph-after, left-after, prices-after, read-answer, room-for}
+use Rattle.sheet.specs.Readings.{Made, Pictures, Reads-in-words, graph-after, left-after, prices-after, read-answer, room-for}
 
 pub made-was-err : (t : Result Contents Fault) (f : Fault) → Made t (Err f) → t ≡ Err f
 made-was-err (Ok c) f k = absurd k
@@ -35,23 +35,56 @@ module _ {P : Type 0} (F : Filing P) (bytes : List ℕ) (old new : PlainGraph) (
     answer : r ≡ read-answer F bytes (length was);
     graph : new ≡ graph-after F bytes (length was) old;
     prices : now-prices ≡ prices-after F bytes was;
-    in-words : Reads-the-layout (F .code) (F .width) bytes;
+    in-words : Reads-in-words F bytes r old new was now-prices;
   }
 
-  words : Reads-the-layout (F .code) (F .width) bytes
-  words = reading-accepts-exactly-the-layout (F .code) (F .width) bytes
+  -- the answer and what is left, in the format's words
+  in-words-from : r ≡ read-answer F bytes (length was) → new ≡ graph-after F bytes (length was) old → now-prices ≡ prices-after F bytes was
+      → Reads-in-words F bytes r old new was now-prices
+  in-words-from a g p =
+      record {
+        laid-out-is-read = λ c l h.
+            let e = words .reads-what-is-laid-out c .1 l in
+            let t : leb (c .graph .n) (length was) ≡ true = le-leb (c .graph .n) (length was) h in (
+              a ∙ answer-at (Ok c) e ∙ ap (λ x. check x (at TablesTooSmall Call 0)) t,
+              g ∙ graph-at (Ok c) e ∙ cond-true _ (c .graph) old t,
+              p ∙ prices-at (Ok c) e ∙ cond-true _ _ was t,
+            );
+        too-few-prices = λ c l h.
+            let e = words .reads-what-is-laid-out c .1 l in
+            let t : leb (c .graph .n) (length was) ≡ false = lt-leb (c .graph .n) (length was) h in (
+              a ∙ answer-at (Ok c) e ∙ ap (λ x. check x (at TablesTooSmall Call 0)) t,
+              g ∙ graph-at (Ok c) e ∙ cond-false _ (c .graph) old t,
+              p ∙ prices-at (Ok c) e ∙ cond-false _ _ was t,
+            );
+        faulty-is-refused = λ f l.
+            let e = words .refuses-the-first-fault f .1 l in
+            (a ∙ answer-at (Err f) e, g ∙ graph-at (Err f) e, p ∙ prices-at (Err f) e);
+        one-of-the-two = words;
+      }
+    where
+      words : Reads-the-layout (F .code) (F .width) bytes
+      words = reading-accepts-exactly-the-layout (F .code) (F .width) bytes
+
+      answer-at : (t : Result Contents Fault) → read-of (F .code) (F .width) bytes ≡ t → read-answer F bytes (length was) ≡ then t (λ c. room-for (c .graph .n) (length was))
+      answer-at t e = ap (λ x. then x (λ c. room-for (c .graph .n) (length was))) e
+
+      graph-at : (t : Result Contents Fault) → read-of (F .code) (F .width) bytes ≡ t → graph-after F bytes (length was) old ≡ left-after t (length was) (λ c. c .graph) old
+      graph-at t e = ap (λ x. left-after x (length was) (λ c. c .graph) old) e
+
+      prices-at : (t : Result Contents Fault) → read-of (F .code) (F .width) bytes ≡ t
+          → prices-after F bytes was ≡ left-after t (length was) (λ c. map (F .price-of) (c .fields) ++ drop (c .graph .n) was) was
+      prices-at t e = ap (λ x. left-after x (length was) (λ c. map (F .price-of) (c .fields) ++ drop (c .graph .n) was) was) e
 
   -- reading gave t, so this is owed of it
   from-reading : (t : Result Contents Fault) → read-of (F .code) (F .width) bytes ≡ t → r ≡ then t (λ c. room-for (c .graph .n) (length was))
       → new ≡ left-after t (length was) (λ c. c .graph) old
       → now-prices ≡ left-after t (length was) (λ c. map (F .price-of) (c .fields) ++ drop (c .graph .n) was) was → Owed
   from-reading t e a g p =
-      record {
-        answer = a ∙ ap (λ x. then x (λ c. room-for (c .graph .n) (length was))) (sym e);
-        graph = g ∙ ap (λ x. left-after x (length was) (λ c. c .graph) old) (sym e);
-        prices = p ∙ ap (λ x. left-after x (length was) (λ c. map (F .price-of) (c .fields) ++ drop (c .graph .n) was) was) (sym e);
-        in-words = words;
-      }
+      let answer = a ∙ ap (λ x. then x (λ c. room-for (c .graph .n) (length was))) (sym e) in
+      let graph = g ∙ ap (λ x. left-after x (length was) (λ c. c .graph) old) (sym e) in
+      let prices = p ∙ ap (λ x. left-after x (length was) (λ c. map (F .price-of) (c .fields) ++ drop (c .graph .n) was) was) (sym e) in
+      record { answer = answer; graph = graph; prices = prices; in-words = in-words-from answer graph prices }
 
   pub refused-post : (f : Fault) → read-of (F .code) (F .width) bytes ≡ Err f → r ≡ Err f → new ≡ old → now-prices ≡ was → Owed
   refused-post f e a g p = from-reading (Err f) e a g p

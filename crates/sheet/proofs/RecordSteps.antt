@@ -44,7 +44,7 @@ found-fault : (r : Result Entry Fault) (f : Fault) → then r (λ e. Ok (Some e)
 found-fault (Ok x) f e = no-way (cc)
 found-fault (Err h) f e = cc
 
-found-some : (r : Result Entry Fault) (x : Entry) → then r (λ e. Ok (Some e)) ≡ Ok (Some x) → r ≡ Ok x
+pub found-some : (r : Result Entry Fault) (x : Entry) → then r (λ e. Ok (Some e)) ≡ Ok (Some x) → r ≡ Ok x
 found-some (Ok y) x e = cc
 found-some (Err h) x e = no-way (cc)
 

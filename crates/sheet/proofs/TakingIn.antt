@@ -9,8 +9,8 @@ use Rattle.std.specs.declared.result.Result.{Result}
 use Rattle.std.proofs.shelf.Lists.{length-push}
 use Rattle.graph.specs.declared.fault.Cause.{Cause}
 use Rattle.graph.specs.declared.fault.Fault.{Fault}
-use Rattle.graph.specs.declared.fault.Layer.the-variants.{Graph as GraphLayer}
 use Rattle.graph.specs.declared.fault.Site.{Site}
+use Rattle.graph.specs.declared.fault.Site.the-variants.{Record as AtRecord}
 use Rattle.graph.specs.declared.graph.Graph.{Graph}
 use Rattle.graph.specs.Faults.{after, answer}
 use Rattle.graph.specs.Graphs.{PlainGraph, link-refusal, linked-too, live-refusal, live-too, one-more, plain, stage-refusal}
@@ -21,7 +21,7 @@ use Rattle.sheet.specs.Readings.{Pictures, Took}
 
 -- the site of a record's tag byte
 abbrev tag-at : ℕ → Site
-tag-at place = record { layer = GraphLayer; place = place }
+tag-at place = AtRecord place
 
 -- an edit is refused, or leaves the graph of what it makes
 made-took : (o : Option Cause) (place : ℕ) (made : Contents) (r : Result (Unit {0}) Fault) (h : Graph) → r ≡ answer o (tag-at place)

@@ -2,7 +2,7 @@
 use mathlib.Core.Path.{_≡_}
 use mathlib.Core.Bool.{cond}
 use mathlib.Core.List.{List, _++_, map}
-use Prim.Native.Nat.{ℕ, _+_}
+use Prim.Native.Nat.{ℕ, _+_, _<_, _≤_}
 use lib.Dec.{leb, ltb}
 use lib.ListN.{drop, length, set}
 use Rattle.std.specs.declared.result.Result.{Result}
@@ -13,8 +13,9 @@ use Rattle.graph.specs.declared.fault.Layer.the-variants.{Call}
 use Rattle.graph.specs.declared.graph.Graph.{Graph}
 use Rattle.graph.specs.Graphs.{PlainGraph, plain}
 use Rattle.sheet_format.specs.Entries.{Entry, stage, link, live}
-use Rattle.sheet_format.specs.Faulty.{at}
-use Rattle.sheet_format.specs.Layout.{Contents}
+use Rattle.sheet_format.specs.Faulty.{Refused, at}
+use Rattle.sheet_format.specs.Layout.{Contents, Laid-out}
+use Rattle.sheet_format.specs.Promise.{Reads-the-layout}
 use Rattle.sheet_format.specs.Reading.{check, read-of, then}
 use Rattle.sheet.specs.Filings.{Filing}
 
@@ -32,6 +33,7 @@ abbrev pub left-after : {S : Type 0} → Result Contents Fault → ℕ → (Cont
 left-after (Ok c) room made old = cond (leb (c .graph .n) room) (made c) old
 left-after (Err f) room made old = old
 
+-- The graph after reading.
 abbrev pub graph-after : {P : Type 0} → Filing P → List ℕ → ℕ → PlainGraph → PlainGraph
 graph-after F bytes room old = left-after (read-of (F .code) (F .width) bytes) room (λ c. c .graph) old
 
@@ -39,6 +41,17 @@ graph-after F bytes room old = left-after (read-of (F .code) (F .width) bytes) r
 abbrev pub prices-after : {P : Type 0} → Filing P → List ℕ → List P → List P
 prices-after F bytes old =
     left-after (read-of (F .code) (F .width) bytes) (length old) (λ c. map (F .price-of) (c .fields) ++ drop (c .graph .n) old) old
+
+-- Reading in the format's words, where r is the answer, the graph went from g to h and the prices from ps to qs. A
+-- sheet that is laid out is read, if there is room for its prices, and else refused with 11; a faulty one is
+-- refused with its first fault; every sheet is one of the two, and a refusal leaves graph and prices as they were.
+pub record Reads-in-words {P : Type 0} (F : Filing P) (bytes : List ℕ) (r : Result (Unit {0}) Fault) (g h : PlainGraph) (ps qs : List P) : Type 0 where
+  pub laid-out-is-read : (c : Contents) → Laid-out (F .code) (F .width) bytes c → c .graph .n ≤ length ps
+      → (r ≡ Ok tt) × (h ≡ c .graph) × (qs ≡ map (F .price-of) (c .fields) ++ drop (c .graph .n) ps)
+  pub too-few-prices : (c : Contents) → Laid-out (F .code) (F .width) bytes c → length ps < c .graph .n
+      → (r ≡ Err (at TablesTooSmall Call 0)) × (h ≡ g) × (qs ≡ ps)
+  pub faulty-is-refused : (f : Fault) → Refused (F .code) (F .width) bytes f → (r ≡ Err f) × (h ≡ g) × (qs ≡ ps)
+  pub one-of-the-two : Reads-the-layout (F .code) (F .width) bytes
 
 -- ---- the graph of a sheet, while its records are taken in
 

@@ -7,9 +7,8 @@ ghost use lib.ListN.{drop, length};
 ghost use Rattle.std.specs.declared.result.Result.the-variants.{Ok};
 ghost use Rattle.graph.specs.Graphs.{plain};
 ghost use Rattle.sheet_format.specs.Layout.{Contents};
-ghost use Rattle.sheet_format.specs.Promise.{Reads-the-layout};
 ghost use Rattle.sheet_format.specs.Reading.{read-of, taken-in};
-ghost use Rattle.sheet.specs.Readings.{Made, Pictures, Took, filed, graph-after, next-filed, prices-after, read-answer};
+ghost use Rattle.sheet.specs.Readings.{Made, Pictures, Reads-in-words, Took, filed, graph-after, next-filed, prices-after, read-answer};
 ghost use Rattle.sheet.specs.Records.{entry-told};
 use crate::filed_price::FiledPrice;
 use crate::reader::Reader;
@@ -25,10 +24,7 @@ use graph::graph::Graph;
 fn take_in(graph: &mut Graph, found: Record) -> Result<(), Fault>
     ensures { λ r. ⌜ ((c : Contents) → Pictures (now (graph .entry)) c → Took (taken-in c (entry-told (found .entry .entry)) (found .entry .place)) r (now (graph .exit))) ⌝ }
 {
-    let site = Site {
-        layer: Layer::Graph,
-        place: found.place,
-    };
+    let site = Site::Record(found.place);
     match found.entry {
         Entry::Stage(_, _) => graph.add_stage(site),
         Entry::Link(from, to) => graph.link(from, to, site),
@@ -83,7 +79,7 @@ pub fn read<P: FiledPrice>(sheet: &[u8], graph: &mut Graph, prices: &mut [P]) ->
     ensures answer { λ r. ⌜ r ≡ read-answer filing (now (sheet .entry)) (length (now (prices .entry))) ⌝ }
     ensures graph { λ _. ⌜ plain (now (graph .exit)) ≡ graph-after filing (now (sheet .entry)) (length (now (prices .entry))) (plain (now (graph .entry))) ⌝ }
     ensures prices { λ _. ⌜ now (prices .exit) ≡ prices-after filing (now (sheet .entry)) (now (prices .entry)) ⌝ }
-    ensures in_words { λ _. ⌜ Reads-the-layout (filing .code) (filing .width) (now (sheet .entry)) ⌝ }
+    ensures in_words { λ r. ⌜ Reads-in-words filing (now (sheet .entry)) r (plain (now (graph .entry))) (plain (now (graph .exit))) (now (prices .entry)) (now (prices .exit)) ⌝ }
 {
     let made = graph_of::<P>(sheet)?;
     if prices.len() < made.stage_count() as usize {

@@ -38,6 +38,7 @@ Formed width (stage field name) = (length field ≡ width) × (1 ≤ length name
 Formed width (link u v) = Unit {0}
 Formed width (live s) = Unit {0}
 
+-- Each record of a list is as laid out.
 abbrev pub All-formed : ℕ → List Entry → Type 0
 All-formed width [] = Unit {0}
 All-formed width (e ∷ es) = Formed width e × All-formed width es

@@ -20,5 +20,6 @@ pub record Reads-the-layout (code width : ℕ) (bytes : List ℕ) : Type 0 where
   pub one-contents : (c d : Contents) → Laid-out code width bytes c → Laid-out code width bytes d → c ≡ d
   pub one-fault : (f g : Fault) → Refused code width bytes f → Refused code width bytes g → f ≡ g
 
+-- The same for every byte string, code and field width.
 abbrev pub Reading-accepts-exactly-the-layout : Type 0
 Reading-accepts-exactly-the-layout = (code width : ℕ) (bytes : List ℕ) → Reads-the-layout code width bytes

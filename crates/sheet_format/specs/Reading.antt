@@ -28,6 +28,7 @@ check true fault = Ok tt
 check false fault = Err fault
 
 -- ---- the frame
+-- Byte 0 is there, and is 1.
 abbrev pub is-version : List ℕ → Bool
 is-version [] = false
 is-version (b ∷ bs) = eqb b 1
@@ -37,20 +38,23 @@ abbrev pub is-sized : List ℕ → Bool
 is-sized bytes =
     leb 4 (length bytes) && leb (length bytes) 20000 && eqb (getD bytes 1 0 * 256 + getD bytes 2 0 + 3) (length bytes)
 
+-- The frame's checks, in their order: version, size, kind.
 abbrev pub frame-of : ℕ → List ℕ → Result (Unit {0}) Fault
 frame-of code bytes =
     then (check (is-version bytes) (at Version Frame 0))
     (λ _. then (check (is-sized bytes) (at Size Frame 1)) (λ _. check (eqb (getD bytes 3 0) code) (at Kind Frame 3)))
 
 -- ---- a record
--- A stage's price field and name, where the name has 1 to 32 printable bytes.
+-- A stage's price field and name, where the test of its body passed.
 abbrev pub stage-of : Bool → ℕ → List ℕ → Option Entry
 stage-of true width bs = Some (stage (take width bs) (drop width bs))
 stage-of false width bs = None
 
+-- The test of a stage's body: behind the price field a name of 1 to 32 printable bytes.
 abbrev pub is-stage : ℕ → List ℕ → Bool
 is-stage width bs = ltb width (length bs) && leb (length bs) (width + 32) && printable (drop width bs)
 
+-- What a body says, by whether the tag is 1, and else whether it is 2, and else whether it is 3.
 abbrev pub by-tag : ℕ → Bool → Bool → Bool → List ℕ → Option Entry
 by-tag width true x y bs = stage-of (is-stage width bs) width bs
 by-tag width false true y [] = None
@@ -67,6 +71,7 @@ abbrev pub entry-of : ℕ → List ℕ → Option Entry
 entry-of width [] = None
 entry-of width (tag ∷ bs) = by-tag width (eqb tag 1) (eqb tag 2) (eqb tag 3) bs
 
+-- The entry, or the fault of a body that is not as laid out, at the place of its tag byte.
 abbrev pub formed-or : Option Entry → ℕ → Result Entry Fault
 formed-or (Some e) place = Ok e
 formed-or None place = Err (at RecordBody Record place)
@@ -78,11 +83,12 @@ record-of width place len more =
     (λ _. formed-or (entry-of width (take len more)) (place + 1))
 
 -- ---- the graph
--- The contents that a record makes, or the fault for which it is refused, at the place of its tag byte.
+-- What was made, or the fault of the cause for which it is refused, at the place of a tag byte.
 abbrev pub made-or : Option Cause → ℕ → Contents → Result Contents Fault
 made-or None place made = Ok made
 made-or (Some cause) place made = Err (at cause Graph place)
 
+-- The contents with a record more, or the fault for which it is refused.
 abbrev pub taken-in : Contents → Entry → ℕ → Result Contents Fault
 taken-in c (stage field name) place =
     made-or (stage-refusal (c .graph)) place

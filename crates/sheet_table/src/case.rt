@@ -69,7 +69,7 @@ fn kind_of(sheet: &[u8]) -> Kind {
 
 impl<'a> Case<'a> {
     /// The case of a line: a label, then words that give the sheet, the kind and the room.
-    pub fn parse(heap: Global, line: &'a str) -> Result<Case<'a>, AnyError> {
+    pub(crate) fn parse(heap: Global, line: &'a str) -> Result<Case<'a>, AnyError> {
         let mut words = line.split_whitespace();
         let label = words.next().unwrap_or("");
         let mut named = None;

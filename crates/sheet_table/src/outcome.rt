@@ -101,7 +101,7 @@ fn outcome_as<P: FiledPrice>(heap: Global, case: &Case) -> Result<String, AllocE
 }
 
 /// What reading the sheet of a case gives: the fault, or the graph and its prices.
-pub fn outcome(heap: Global, case: &Case) -> Result<String, AllocError> {
+pub(crate) fn outcome(heap: Global, case: &Case) -> Result<String, AllocError> {
     match case.kind {
         Kind::Count => outcome_as::<Count>(heap, case),
         Kind::Memory => outcome_as::<Memory>(heap, case),

@@ -55,7 +55,7 @@ looped-walks (suc n) L f =
     (λ e. step-there L n ih (or-cases _ _ e), λ r. step-back L n ih r (cases-bool (L n n)))
 
 -- a closed walk comes round by a loop, and a loop is a closed walk
-loop-of : (L : Links) → ClosedWalk (Link L) → Loop L
+pub loop-of : (L : Links) → ClosedWalk (Link L) → Loop L
 loop-of L r =
     let s = simple (Link L) (r .0) (r .0) (r .1 .0) (r .1 .1) in
     record { first = r .0; rest = s .0; apart = s .2; closed = s .1 }

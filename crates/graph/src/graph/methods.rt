@@ -1,9 +1,8 @@
-ghost use mathlib.Core.Bool.{_&&_, not};
 ghost use mathlib.Core.Path.{_≡_};
 ghost use Prim.Native.Nat.{ℕ};
-ghost use lib.Dec.{ltb};
 ghost use Rattle.std.specs.Options.{mapped};
-ghost use Rattle.graph.specs.Graphs.{bare, live-of, plain, sized};
+ghost use Rattle.graph.specs.Graphs.{bare, plain, sized};
+ghost use Rattle.graph.specs.Plans.{not-live};
 ghost use Rattle.graph.specs.StageSets.{stages};
 use super::Graph;
 use crate::digraph::Digraph;
@@ -56,9 +55,9 @@ impl Graph {
         self.live
     }
 
-    /// Its stages that are not live.
+    /// Its stages that are not live, which are a plan.
     pub fn not_live(&self) -> StageSet
-        ensures { λ r. ⌜ ((s : ℕ) → stages r s ≡ (ltb s (now (self .entry) .n) && not (live-of (plain (now (self .entry))) s))) ⌝ }
+        ensures { λ r. ⌜ ((s : ℕ) → stages r s ≡ not-live (plain (now (self .entry))) s) ⌝ }
     {
         StageSet::below(self.n).difference(self.live)
     }

@@ -110,16 +110,19 @@ fn a_refused_edit_leaves_the_graph() -> Result<(), Fail> {
 #[test]
 fn a_fault_has_the_site_of_the_edit() -> Result<(), Fail> {
     let mut graph = Graph::empty();
-    let call = Site {
+    let cause = Cause::NoSuchStage;
+    let at_record = Fault {
+        cause,
+        layer: Layer::Graph,
+        place: 40,
+    };
+    let in_call = Fault {
+        cause,
         layer: Layer::Call,
         place: 0,
     };
-    let fault = Fault {
-        cause: Cause::NoSuchStage,
-        layer: Layer::Call,
-        place: 0,
-    };
-    check(graph.free(0, call) == Err(fault))
+    check(graph.free(0, Site::Record(40)) == Err(at_record))?;
+    check(graph.free(0, Site::Call) == Err(in_call))
 }
 
 #[test]
