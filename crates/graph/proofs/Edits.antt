@@ -16,7 +16,7 @@ use Rattle.std.proofs.shelf.Bits.{pow-below}
 use Rattle.std.proofs.shelf.Tests.{and-from, and-left, and-parts, and-right, cond-true, eqb-true, or-cases, both-ways, lt-ltb, le-ltb, ltb-true}
 use Rattle.std.proofs.shelf.Ways.{decides-and, decides-ltb, same-from-decides, tells}
 use Rattle.theory.specs.Loops.{Chain, Link, Links, Stages, Loop, Within, between}
-use Rattle.theory.specs.Moves.{dropped, with-link}
+use Rattle.theory.specs.Moves.{dropped, with-link, with-stage, without-stage}
 use Rattle.theory.proofs.Deciding.{loop-test-decides}
 use Rattle.theory.proofs.Walking.{chain-map}
 use Rattle.graph.specs.declared.fault.Cause.{Cause}
@@ -27,7 +27,7 @@ use Rattle.graph.specs.declared.fault.Site.the-variants.{Record as AtRecord, C
 use Rattle.graph.specs.declared.digraph.Digraph.{Digraph}
 use Rattle.graph.specs.declared.graph.Graph.{Graph}
 use Rattle.graph.specs.declared.stage_set.StageSet.{StageSet}
-use Rattle.graph.specs.Edits.{Adds, Changed, Frees, Links-up, Marks-live, TakesOff, Unlinks, with-stage, without-stage}
+use Rattle.graph.specs.Edits.{Adds, Changed, Frees, Links-up, Marks-live, TakesOff, Unlinks}
 use Rattle.graph.specs.Faults.{after, answer, cause-of, number, unless}
 use Rattle.graph.specs.Graphs.{PlainGraph, Sound, bare, free-refusal, freed, link-refusal, linked-too, links-of, live-links, live-looped, live-of, live-refusal, live-too, plain, unlink-refusal, unlinked}
 use Rattle.graph.specs.Marks.{linked, marked}

@@ -3,3 +3,4 @@ pub mod Rows
 pub mod Loops
 pub mod Edits
 pub mod NotLive
+pub mod Columns

@@ -1,24 +1,15 @@
 -- What the edits of a graph refuse and change, in the words of stages, links, marks and loops.
 use mathlib.Core.Path.{_≡_}
-use mathlib.Core.Bool.{true, _&&_, _||_, not}
+use mathlib.Core.Bool.{true}
 use mathlib.Core.Logic.{_↔_}
 use Prim.Native.Nat.{ℕ, _<_}
-use lib.Dec.{eqb}
 use Rattle.std.specs.declared.option.Option.{Option}
 use Rattle.std.specs.declared.option.Option.the-variants.{Some, None}
 use Rattle.theory.specs.Loops.{Links, Stages, Loop, between}
-use Rattle.theory.specs.Moves.{dropped, with-link}
+use Rattle.theory.specs.Moves.{dropped, with-link, with-stage, without-stage}
 use Rattle.graph.specs.declared.fault.Cause.{Cause}
 use Rattle.graph.specs.declared.fault.Cause.the-variants.{NoSuchStage, AlreadyThere, LiveLoop, NotThere}
 use Rattle.graph.specs.Graphs.{PlainGraph, links-of, live-of}
-
--- The set with one stage more.
-abbrev pub with-stage : Stages → ℕ → Stages
-with-stage S v s = S s || eqb s v
-
--- The set with one stage less.
-abbrev pub without-stage : Stages → ℕ → Stages
-without-stage S v s = S s && not (eqb s v)
 
 -- An edit that adds something, where `there` says that the stages it names are there, `already` that what it
 -- adds is there, and `live-links` are the links between live stages once it is added: refused for the first of

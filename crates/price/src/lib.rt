@@ -1,5 +1,6 @@
 //! Prices of stages: what a price kind is, two of them, and the cost of a set of stages.
 
+pub mod cheapest;
 pub mod cost;
 pub mod count;
 pub mod count_price;

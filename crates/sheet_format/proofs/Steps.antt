@@ -15,12 +15,11 @@ use Rattle.std.specs.declared.result.Result.{Result}
 use Rattle.std.specs.declared.result.Result.the-variants.{Ok, Err}
 use Rattle.std.specs.declared.option.Option.the-variants.{None}
 use Rattle.theory.specs.Loops.{Links, Loop, between}
-use Rattle.theory.specs.Moves.{with-link}
+use Rattle.theory.specs.Moves.{with-link, with-stage}
 use Rattle.graph.specs.declared.fault.Cause.{Cause}
 use Rattle.graph.specs.declared.fault.Cause.the-variants.{TooManyStages, NoSuchStage, AlreadyThere, LiveLoop}
 use Rattle.graph.specs.declared.fault.Fault.{Fault}
 use Rattle.graph.specs.declared.fault.Layer.the-variants.{Graph}
-use Rattle.graph.specs.Edits.{with-stage}
 use Rattle.graph.specs.Faults.{unless}
 use Rattle.graph.specs.Graphs.{PlainGraph, Sound, links-of, linked-too, live-links, live-looped, live-of, live-too, one-more}
 use Rattle.graph.proofs.Edits.{link-decides, link-links, link-live, live-live, live-marks, mark-decides, no-loop-without-links, sound-rows, tested}

@@ -1,17 +1,8 @@
+use super::ring;
 use graph::digraph::Digraph;
 use graph::stage_set::StageSet;
 use graph::stage_set::StageSetPartialEq;
 use std::test::*;
-
-// The stages below `n`, each linked to the next and the last to stage 0.
-fn ring(n: u8) -> Digraph {
-    let mut digraph = Digraph::new(StageSet::below(n));
-    for s in 0..n {
-        let next = if s + 1 == n { 0 } else { s + 1 };
-        digraph.link(s, next);
-    }
-    digraph
-}
 
 #[test]
 fn a_link_is_refused_where_an_end_is_no_stage() -> Result<(), Fail> {
