@@ -1,4 +1,6 @@
 //! Tests of stage sets, digraphs and graphs on small cases.
 
+#![tactic(auto)]
+
 #[cfg(test)]
 mod tests;

@@ -1,5 +1,7 @@
 //! `holds`: reads a graph sheet from standard input and prints its refusal, or what is known of its plan.
 
+#![tactic(auto)]
+
 use report::report::report;
 use std::io;
 use std::io::{Read, Write};

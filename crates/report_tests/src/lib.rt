@@ -1,5 +1,7 @@
 //! The example sheets, and a few that are refused, through what `holds` prints.
 
+#![tactic(auto)]
+
 #[cfg(test)]
 mod tests {
     use report::report::report;

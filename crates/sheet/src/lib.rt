@@ -1,5 +1,7 @@
 //! Graph sheets: prices that a sheet can file, and reading a sheet's frame, records and graph.
 
+#![tactic(auto)]
+
 pub mod figures;
 pub mod filed_price;
 pub mod filings;

@@ -1,5 +1,7 @@
 //! Reads a table of sheets from its standard input, and writes a line with the outcome of each.
 
+#![tactic(auto)]
+
 use self::case::Case;
 use self::outcome::outcome;
 use std::alloc::Global;

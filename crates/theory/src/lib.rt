@@ -1,6 +1,8 @@
 //! Loops, breaking sets, tests for them, moves and reach, with no code: each function states a theorem in its
 //! contract.
 
+#![tactic(auto)]
+
 ghost use Rattle.theory.specs.LoopTests.{BreakingTestDecides, LoopTestDecides};
 ghost use Rattle.theory.specs.Kept.{DominatedDropsFreely, HoldingKeepsTheSetsWith, OffUnpairedLoopsDropsFreely, PassingKeepsTheSetsWithout};
 ghost use Rattle.theory.specs.Reach.{OnLoopIffReachedBack, ReachingDecidesWalks};

@@ -4,8 +4,8 @@ use Rattle.report.proofs.names.push_hold.Goals as goal
 
 pub returns : goal.returns
 returns c =
-    let start = c.as-bytes.ensures.value ∙ c.in-ok-start.ensures in
+    let start = c.as_bytes.ensures.value ∙ c.in_ok-start.ensures in
     let text = vec_items c.args.text.now in
-    pushed_three text _ c.args.name.now (codes "\n") _ _ _ _ _ c.in-ok-extend-from-slice.ensures.items start c.in-ok-extend-from-slice-2.ensures.items refl
-    c.in-ok-extend-from-slice-3.ensures.items
+    pushed_three text _ c.args.name.now (codes "\n") _ _ _ _ _ c.in_ok-extend_from_slice.ensures.items start c.in_ok-extend_from_slice-2.ensures.items refl
+    c.in_ok-extend_from_slice-3.ensures.items
     ∙ hold_joined text c.args.name.now c.args.s

@@ -40,8 +40,8 @@ loop-record-preserved g c =
     let start = vec_items c.args.text.now in
     let held = stages c.args.held in (
       over_still sheet w r s f.0 inv.0 f.1,
-      subst (λ k. k ≤ s.at) (sym c.count-stage-s.ensures) (within_on w held sheet start r s f.0 inv.0 f.1 c.loop-record.s (vec_items c.loop-record.text) inv.2 c.in-Some.record is inv.1),
-      as_listed w held sheet start s.at _ _ _ _ c.count-stage-s.ensures c.in-ok-push-entry.ensures
+      subst (λ k. k ≤ s.at) (sym c.count_stage-s.ensures) (within_on w held sheet start r s f.0 inv.0 f.1 c.loop-record.s (vec_items c.loop-record.text) inv.2 c.in-Some.record is inv.1),
+      as_listed w held sheet start s.at _ _ _ _ c.count_stage-s.ensures c.in_ok-push_entry.ensures
           (listed_on w held sheet start r s f.0 inv.0 f.1 c.loop-record.s (vec_items c.loop-record.text) inv.2 c.in-Some.record is),
     )
 
@@ -49,6 +49,6 @@ pub returns : goal.returns
 returns g c all ok =
     let F = g.P.FiledPrice.filing in
     let inv = c.loop-record.invariant in
-    let f = c.in-default-following.ensures in
+    let f = c.in_default-following.ensures in
     all_listed F.width (stages c.args.held) c.args.sheet.now (vec_items c.args.text.now) c.loop-record.reader c.following.new.reader f.0 inv.0 f.1 c.loop-record.s
     (vec_items c.loop-record.text) inv.2 (sym f.2) all (sym (framed F.code F.width c.args.sheet.now c.in-Ok.ensures.0) ∙ ok)

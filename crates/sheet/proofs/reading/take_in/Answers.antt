@@ -7,8 +7,8 @@ use Rattle.sheet.proofs.reading.take_in.Goals as goal
 
 pub returns-in-Stage : goal.returns-in-Stage
 returns-in-Stage c d ok =
-    subst (λ e. Took (taken_in d (entry_told e) c.args.found.place) c.add-stage.result c.add-stage.new.self) (sym c.in-Stage.is)
-    (stage_in c.args.graph.now c.add-stage.new.self d ok c.args.found.place c.add-stage.result _ _ c.add-stage.ensures.answer c.add-stage.ensures.after)
+    subst (λ e. Took (taken_in d (entry_told e) c.args.found.place) c.add_stage.result c.add_stage.new.self) (sym c.in-Stage.is)
+    (stage_in c.args.graph.now c.add_stage.new.self d ok c.args.found.place c.add_stage.result _ _ c.add_stage.ensures.answer c.add_stage.ensures.after)
 
 pub returns-in-Link : goal.returns-in-Link
 returns-in-Link c d ok =
@@ -17,5 +17,5 @@ returns-in-Link c d ok =
 
 pub returns-in-Live : goal.returns-in-Live
 returns-in-Live c d ok =
-    subst (λ e. Took (taken_in d (entry_told e) c.args.found.place) c.mark-live.result c.mark-live.new.self) (sym c.in-Live.is)
-    (live_in c.args.graph.now c.mark-live.new.self d ok c.args.found.place c.mark-live.result c.in-Live.stage c.mark-live.ensures.answer c.mark-live.ensures.after)
+    subst (λ e. Took (taken_in d (entry_told e) c.args.found.place) c.mark_live.result c.mark_live.new.self) (sym c.in-Live.is)
+    (live_in c.args.graph.now c.mark_live.new.self d ok c.args.found.place c.mark_live.result c.in-Live.stage c.mark_live.ensures.answer c.mark_live.ensures.after)

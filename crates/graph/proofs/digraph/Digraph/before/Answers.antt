@@ -4,18 +4,18 @@ use Rattle.graph.specs.StageSets.{stages}
 use Rattle.graph.proofs.Columns.{left_out, taken_all, taken_more}
 use Rattle.graph.proofs.Rows.{past_rows, rows_of}
 use Rattle.graph.proofs.digraph.Digraph.before.Goals as goal
-use Rattle.graph.proofs.digraph.Digraph.before.Goals.{then-is-linked, else-is-linked}
+use Rattle.graph.proofs.digraph.Digraph.before.Goals.{then-is_linked, else-is_linked}
 
 pub loop-u-preserved : goal.loop-u-preserved
-loop-u-preserved c s = elim c.if-is-linked.branch [
-  | then-is-linked w ↦
+loop-u-preserved c s = elim c.if-is_linked.branch [
+  | then-is_linked w ↦
       ap (λ x. stages x s) w.set-is
       ∙ taken_more (λ t. links c.args.self.now t c.args.v) (stages c.loop-u.set) c.loop-u.u c.loop-u.invariant (stages w.with-set.result) c.loop-u-test.true
-      (sym c.is-linked.ensures ∙ w.if-is-linked.true) w.with-set.ensures s
-  | else-is-linked w ↦
+      (sym c.is_linked.ensures ∙ w.if-is_linked.true) w.with-set.ensures s
+  | else-is_linked w ↦
       ap (λ x. stages x s) w.set-is
       ∙ left_out (λ t. links c.args.self.now t c.args.v) (stages c.loop-u.set) c.loop-u.u c.loop-u.invariant
-      (sym c.is-linked.ensures ∙ w.if-is-linked.false) s
+      (sym c.is_linked.ensures ∙ w.if-is_linked.false) s
 ]
 
 pub returns : goal.returns

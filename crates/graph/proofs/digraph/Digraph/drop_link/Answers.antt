@@ -12,22 +12,17 @@ returns-then-from-ge64 c = record {
       (⊎_elim (λ (h : 64 ≤ c.args.from). inl h) (λ (h : (c.args.from < 64) × (64 ≤ c.args.to)). inr h.1) c.then-from-ge64.either) a b;
 }
 
-pub invariant-of-self : goal.invariant-of-self
-invariant-of-self c =
+pub invariant_of-self : goal.invariant_of-self
+invariant_of-self c =
     let g = c.args.self.now in
     rw (one_shl c.args.to 64 c.if-to-ge64.false)
-    (let r = without_mark_rows g.rows c.args.from c.args.to (rows_of g) in (
-      r.long,
-      (
-        r.fit,
-        (
-          λ u w h.
-              let e = without_mark_links g.rows c.args.from c.args.to (rows_of g) c.if-from-ge64.false c.if-to-ge64.false u w in
-              g.inside u w (grind (arith, nat_tests)),
-          tt,
-        ),
-      ),
-    ))
+    (let r = without_mark_rows g.rows c.args.from c.args.to (rows_of g) in record {
+      long = r.long;
+      fit = r.fit;
+      inside = λ u w h.
+          let e = without_mark_links g.rows c.args.from c.args.to (rows_of g) c.if-from-ge64.false c.if-to-ge64.false u w in
+          g.inside u w (grind (arith, nat_tests));
+    })
 
 pub returns : goal.returns
 returns c =

@@ -6,14 +6,14 @@ use Rattle.graph.proofs.digraph.Digraph.has_loop.Goals as goal
 
 pub loop-v-preserved : goal.loop-v-preserved
 loop-v-preserved c =
-    looped_less (linked c.loop-v.rows) (linked c.rows-past-rows.result) c.loop-v.v (omega arith) (sym c.is-marked.ensures ∙ c.if-is-marked.false) c.rows-past-rows.ensures.links
+    looped_less (linked c.loop-v.rows) (linked c.rows_past-rows.result) c.loop-v.v (omega arith) (sym c.is_marked.ensures ∙ c.if-is_marked.false) c.rows_past-rows.ensures.links
     ∙ c.loop-v.invariant
 
-pub returns-then-is-marked : goal.returns-then-is-marked
-returns-then-is-marked c =
+pub returns-then-is_marked : goal.returns-then-is_marked
+returns-then-is_marked c =
     let g = c.args.self.now in
     rows_decide g.rows (rows_of g) _
-    (sym c.loop-v.invariant ∙ looped_here (linked c.loop-v.rows) c.loop-v.v (omega arith) (sym c.is-marked.ensures ∙ c.if-is-marked.true))
+    (sym c.loop-v.invariant ∙ looped_here (linked c.loop-v.rows) c.loop-v.v (omega arith) (sym c.is_marked.ensures ∙ c.if-is_marked.true))
 
 pub returns : goal.returns
 returns c =

@@ -11,8 +11,8 @@ use Rattle.graph.proofs.digraph.Digraph.link.Goals as goal
 below : (g : Digraph) (s : ℕ) → true ≡ marked g.stages.word s → s < 64
 below g s e = mark_below g.stages.word s g.stages.fits (sym e)
 
-pub overflow-shl-self : goal.overflow-shl-self
-overflow-shl-self c = below c.args.self.now c.args.to c.if-not-has-2.ensures
+pub overflow_shl-self : goal.overflow_shl-self
+overflow_shl-self c = below c.args.self.now c.args.to c.if-not-has-2.ensures
 
 pub bounds-self-from : goal.bounds-self-from
 bounds-self-from c = below c.args.self.now c.args.from c.if-not-has.ensures
@@ -20,14 +20,14 @@ bounds-self-from c = below c.args.self.now c.args.from c.if-not-has.ensures
 pub bounds-self-from-2 : goal.bounds-self-from-2
 bounds-self-from-2 c = below c.args.self.now c.args.from c.if-not-has.ensures
 
-pub invariant-of-self : goal.invariant-of-self
-invariant-of-self c =
+pub invariant_of-self : goal.invariant_of-self
+invariant_of-self c =
     let g = c.args.self.now in
     let hu = below g c.args.from c.if-not-has.ensures in
     let hv = below g c.args.to c.if-not-has-2.ensures in
     rw (one_shl c.args.to 64 hv)
     (let r = with_mark_rows g.rows c.args.from c.args.to (rows_of g) hv in
-    (r.long, (r.fit, (inside_with_link g c.args.from c.args.to hu (sym c.if-not-has.ensures) (sym c.if-not-has-2.ensures), tt))))
+    record { long = r.long; fit = r.fit; inside = inside_with_link g c.args.from c.args.to hu (sym c.if-not-has.ensures) (sym c.if-not-has-2.ensures) })
 
 pub returns : goal.returns
 returns c =

@@ -13,14 +13,14 @@ loop-k-init c = (λ a b. refl, rows_of c.args.self.now)
 
 pub loop-k-preserved : goal.loop-k-preserved
 loop-k-preserved c = (
-  reaches_more (links c.args.self.now) (linked c.loop-k.rows) (linked c.rows-bridged-rows.result) c.loop-k.k c.loop-k.invariant.0 c.rows-bridged-rows.ensures.links,
-  record { long = search rules; fit = c.rows-bridged-rows.ensures.fit },
+  reaches_more (links c.args.self.now) (linked c.loop-k.rows) (linked c.rows_bridged-rows.result) c.loop-k.k c.loop-k.invariant.0 c.rows_bridged-rows.ensures.links,
+  record { long = search rules; fit = c.rows_bridged-rows.ensures.fit },
 )
 
-pub invariant-of-result : goal.invariant-of-result
-invariant-of-result c =
+pub invariant_of-result : goal.invariant_of-result
+invariant_of-result c =
     let g = c.args.self.now in
-    (c.loop-k.invariant.1.long, (c.loop-k.invariant.1.fit, (λ u w h. reaches_inside (links g) (marked g.stages.word) g.inside c.loop-k.k u w (sym (c.loop-k.invariant.0 u w) ∙ h), tt)))
+    record { long = c.loop-k.invariant.1.long; fit = c.loop-k.invariant.1.fit; inside = λ u w h. reaches_inside (links g) (marked g.stages.word) g.inside c.loop-k.k u w (sym (c.loop-k.invariant.0 u w) ∙ h) }
 
 pub returns : goal.returns
 returns c =

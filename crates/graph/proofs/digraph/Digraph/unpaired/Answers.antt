@@ -17,11 +17,11 @@ loop-u-preserved c = made_more _ _ c.loop-u.u c.difference.result.word c.loop-u.
     let m = c.mates.ensures b in
     grind (arith, nat_tests))
 
-pub invariant-of-result : goal.invariant-of-result
-invariant-of-result c =
+pub invariant_of-result : goal.invariant_of-result
+invariant_of-result c =
     let g = c.args.self.now in
     let r = c.loop-u.invariant.rows in
-    (r.long, (r.fit, (λ u w h. g.inside u w (and_parts _ _ (and_parts _ _ (sym (c.loop-u.invariant.so_far u w) ∙ h)).1).0, tt)))
+    record { long = r.long; fit = r.fit; inside = λ u w h. g.inside u w (and_parts _ _ (and_parts _ _ (sym (c.loop-u.invariant.so_far u w) ∙ h)).1).0 }
 
 pub returns : goal.returns
 returns c =

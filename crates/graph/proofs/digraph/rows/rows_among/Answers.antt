@@ -6,7 +6,7 @@ pub loop-u-init : goal.loop-u-init
 loop-u-init c = made_none _
 
 pub loop-u-preserved : goal.loop-u-preserved
-loop-u-preserved c = made_more _ _ c.loop-u.u c.row-among.result c.loop-u.invariant (omega arith) (omega arith) c.row-among.ensures
+loop-u-preserved c = made_more _ _ c.loop-u.u c.row_among.result c.loop-u.invariant (omega arith) (omega arith) c.row_among.ensures
 
 pub returns : goal.returns
 returns c = record {

@@ -14,8 +14,8 @@ others v s hv hs = marked_flip (2 ^ v) s (pow_below v 64 hv) hs ∙ ap not (mark
 pub returns : goal.returns
 returns c = record {
   links = λ a b.
-      let e = c.rows-among.ensures.links a b in
-      let f = c.rows-bridged.ensures.links a b in
+      let e = c.rows_among.ensures.links a b in
+      let f = c.rows_bridged.ensures.links a b in
       ⊎_elim
       (λ (ha : a < 64). ⊎_elim
       (λ (hb : b < 64).
@@ -32,7 +32,7 @@ returns c = record {
       let q = past_rows _ rows a c.args.v (inl ha) in
       e ∙ rw (f, p, q) (grind (arith, nat_tests)))
       (cases_lt a 64);
-  fit = c.rows-among.ensures.fit;
+  fit = c.rows_among.ensures.fit;
 }
   where
     rows : Rows c.args.rows.now

@@ -15,18 +15,9 @@ returns-then-not-has c =
     free_post c.args.self.now _ c.args.stage c.args.site _ (Some NotThere)
     (goes_on _ _ _ (lt-ltb c.args.stage c.args.self.now.n (omega arith)) ∙ stops _ _ _ (sym c.if-not-has.ensures)) (ap Err c.at-then-not-has.ensures) refl
 
-pub invariant-of-self : goal.invariant-of-self
-invariant-of-self c =
-    let g = c.args.self.now in (
-      g.few,
-      (
-        g.numbered,
-        (
-          (λ s h. g.live_stages s (let e = c.without-self.ensures s in grind (arith, nat_tests))),
-          (fewer_links _ _ (λ a b h. let p = c.without-self.ensures a in let q = c.without-self.ensures b in grind (arith, nat_tests)) g.no_live_loop, tt),
-        ),
-      ),
-    )
+pub invariant_of-self : goal.invariant_of-self
+invariant_of-self c =
+    let g = c.args.self.now in record { few = g.few; numbered = g.numbered; live_stages = λ s h. g.live_stages s (let e = c.without-self.ensures s in grind (arith, nat_tests)); no_live_loop = fewer_links _ _ (λ a b h. let p = c.without-self.ensures a in let q = c.without-self.ensures b in grind (arith, nat_tests)) g.no_live_loop }
 
 pub returns : goal.returns
 returns c =

@@ -10,29 +10,20 @@ returns-then-from-n c =
     unlink_post c.args.self.now _ c.args.from c.args.to c.args.site _ (Some NoSuchStage)
     (stops _ _ _ (absent_end c.args.self.now.n c.args.from c.args.to c.then-from-n.either)) (ap Err c.at.ensures) refl
 
-pub returns-then-not-is-linked : goal.returns-then-not-is-linked
-returns-then-not-is-linked c =
+pub returns-then-not-is_linked : goal.returns-then-not-is_linked
+returns-then-not-is_linked c =
     unlink_post c.args.self.now _ c.args.from c.args.to c.args.site _ (Some NotThere)
     (goes_on _ _ _ (and_from _ _ (lt-ltb c.args.from c.args.self.now.n (omega arith)) (lt-ltb c.args.to c.args.self.now.n (omega arith)))
-    ∙ stops _ _ _ (sym c.if-not-is-linked.ensures)) (ap Err c.at-then-not-is-linked.ensures) refl
+    ∙ stops _ _ _ (sym c.if-not-is_linked.ensures)) (ap Err c.at-then-not-is_linked.ensures) refl
 
-pub invariant-of-self : goal.invariant-of-self
-invariant-of-self c =
-    let g = c.args.self.now in (
-      g.few,
-      (
-        (λ s. rw c.drop-link.ensures.stages (g.numbered s)),
-        (
-          g.live_stages,
-          (fewer_links _ _ (λ a b h. let e = c.drop-link.ensures.links a b in grind (arith, nat_tests)) g.no_live_loop, tt),
-        ),
-      ),
-    )
+pub invariant_of-self : goal.invariant_of-self
+invariant_of-self c =
+    let g = c.args.self.now in record { few = g.few; numbered = λ s. rw c.drop_link.ensures.stages (g.numbered s); live_stages = g.live_stages; no_live_loop = fewer_links _ _ (λ a b h. let e = c.drop_link.ensures.links a b in grind (arith, nat_tests)) g.no_live_loop }
 
 pub returns : goal.returns
 returns c =
     let g = c.args.self.now in
     unlink_post g _ c.args.from c.args.to c.args.site _ None
     (goes_on _ _ _ (and_from _ _ (lt-ltb c.args.from g.n (omega arith)) (lt-ltb c.args.to g.n (omega arith)))
-    ∙ goes_on _ _ _ (sym c.if-not-is-linked.ensures)) refl
-    (same_plain g.n _ _ _ _ (dropped_rows g c.drop-link.new.self c.args.from c.args.to (omega arith) (omega arith) c.drop-link.ensures.links) refl)
+    ∙ goes_on _ _ _ (sym c.if-not-is_linked.ensures)) refl
+    (same_plain g.n _ _ _ _ (dropped_rows g c.drop_link.new.self c.args.from c.args.to (omega arith) (omega arith) c.drop_link.ensures.links) refl)

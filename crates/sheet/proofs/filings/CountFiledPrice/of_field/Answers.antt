@@ -4,4 +4,4 @@ use Rattle.sheet.proofs.filings.CountFiledPrice.of_field.Goals as goal
 
 pub returns : goal.returns
 unfolding count
-returns c = count_same _ _ c.of-stage.ensures
+returns c = count_same _ _ c.of_stage.ensures

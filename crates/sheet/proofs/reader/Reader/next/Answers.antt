@@ -26,13 +26,13 @@ returns-then-len-eq0 c =
       same_width = refl;
     }
 
-pub returns-in-err-entry : goal.returns-in-err-entry
-returns-in-err-entry c =
+pub returns-in_err-entry : goal.returns-in_err-entry
+returns-in_err-entry c =
     let self = c.args.self.now in
-    let p = err_from_is_err_and c.from-residual.result c.from-residual.ensures.1 in
+    let p = err_from_is_err_and c.from_residual.result c.from_residual.ensures.1 in
     rw (p.1, p.2)
     (record {
-      answers = next_entry self.width self.at self.sheet.now c.if-at-sheet.false c.if-len-eq0.false c.if-len-sheet.false _ c.in-err-entry.ensures.entry;
+      answers = next_entry self.width self.at self.sheet.now c.if-at-sheet.false c.if-len-eq0.false c.if-len-sheet.false _ c.in_err-entry.ensures.entry;
       places = tt;
       name_is_a_part = tt;
       goes_on = refl;
@@ -43,10 +43,10 @@ returns-in-err-entry c =
 pub returns : goal.returns
 returns c =
     let self = c.args.self.now in
-    let entry = c.in-ok-entry.entry in
+    let entry = c.in_ok-entry.entry in
     let name-at : self.at + 1 + 1 + self.width ≡ self.at + 2 + self.width = omega arith in
-    let answers = next_entry self.width self.at self.sheet.now c.if-at-sheet.false c.if-len-eq0.false c.if-len-sheet.false (Ok (entry_told entry)) c.in-ok-entry.ensures.entry in
-    let placed = subst (λ k. EntryPlaced entry k) name-at c.in-ok-entry.ensures.name in
+    let answers = next_entry self.width self.at self.sheet.now c.if-at-sheet.false c.if-len-eq0.false c.if-len-sheet.false (Ok (entry_told entry)) c.in_ok-entry.ensures.entry in
+    let placed = subst (λ k. EntryPlaced entry k) name-at c.in_ok-entry.ensures.name in
     record {
       answers = answers;
       places = (refl, placed);

@@ -8,14 +8,14 @@ pub loop-b-preserved : goal.loop-b-preserved
 loop-b-preserved c =
     let bs = c.args.name.now in
     let i = c.loop-b.b-index in
-    sym (at_drop_more printable bs i 0 c.loop-b-test.true ∙ printable_more (get_or bs i 0) (drop (i + 1) bs) (sym c.is-name-byte.ensures ∙ c.if-not-is-name-byte.false))
+    sym (at_drop_more printable bs i 0 c.loop-b-test.true ∙ printable_more (get_or bs i 0) (drop (i + 1) bs) (sym c.is_name_byte.ensures ∙ c.if-not-is_name_byte.false))
     ∙ c.loop-b.invariant
 
-pub returns-then-not-is-name-byte : goal.returns-then-not-is-name-byte
-returns-then-not-is-name-byte c =
+pub returns-then-not-is_name_byte : goal.returns-then-not-is_name_byte
+returns-then-not-is_name_byte c =
     let bs = c.args.name.now in
     let i = c.loop-b.b-index in
-    sym (at_drop_more printable bs i 0 c.loop-b-test.true ∙ printable_stop (get_or bs i 0) (drop (i + 1) bs) (sym c.is-name-byte.ensures ∙ c.if-not-is-name-byte.true))
+    sym (at_drop_more printable bs i 0 c.loop-b-test.true ∙ printable_stop (get_or bs i 0) (drop (i + 1) bs) (sym c.is_name_byte.ensures ∙ c.if-not-is_name_byte.true))
     ∙ c.loop-b.invariant
 
 pub returns : goal.returns

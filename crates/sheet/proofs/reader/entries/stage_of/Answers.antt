@@ -17,17 +17,17 @@ returns-then-size-width c =
     ] in
     record { entry = sym (ap (λ o. formed_or o c.args.place) (no_stage c.args.width rest e)); name = tt }
 
-pub returns-then-not-is-printable : goal.returns-then-not-is-printable
-returns-then-not-is-printable c =
+pub returns-then-not-is_printable : goal.returns-then-not-is_printable
+returns-then-not-is_printable c =
     let rest = c.args.rest.now in
-    let p : printable (drop c.args.width rest) ≡ false = rw (take_rest rest c.args.width) at (sym c.is-printable.ensures ∙ c.if-not-is-printable.true) in
+    let p : printable (drop c.args.width rest) ≡ false = rw (take_rest rest c.args.width) at (sym c.is_printable.ensures ∙ c.if-not-is_printable.true) in
     let e : is_stage c.args.width rest ≡ false = grind (arith, nat_tests) in
     record { entry = sym (ap (λ o. formed_or o c.args.place) (no_stage c.args.width rest e)); name = tt }
 
 pub returns : goal.returns
 returns c =
     let rest = c.args.rest.now in
-    let p : printable (drop c.args.width rest) ≡ true = rw (take_rest rest c.args.width) at (sym c.is-printable.ensures ∙ c.if-not-is-printable.false) in
+    let p : printable (drop c.args.width rest) ≡ true = rw (take_rest rest c.args.width) at (sym c.is_printable.ensures ∙ c.if-not-is_printable.false) in
     let e : is_stage c.args.width rest ≡ true = grind (arith, nat_tests) in
     let z : c.args.width - 0 ≡ c.args.width = omega arith in
     record { entry = rw (z, take_rest rest c.args.width) (sym (ap (λ o. formed_or o c.args.place) (some_stage c.args.width rest e))); name = refl }
