@@ -11,7 +11,7 @@ use graph::stage_set::StageSet;
 /// The cost of a set: the sum, from nothing, of the prices of its stages, where stage `s` has the price at place
 /// `s`. A stage with no price adds nothing, and a price past the 64th is no stage's.
 pub fn cost<P: Price>(prices: &[P], set: StageSet) -> P
-    ensures { result ≡ cost kind (price_at prices.now kind.nothing) (length prices.now) (stages set) }
+    ensures { result ≡ cost P.kind (price_at prices.now P.kind.nothing) (length prices.now) (stages set) }
 {
     let mut sum = P::nothing();
     for (s, price) in prices.iter().enumerate() {
