@@ -1,7 +1,7 @@
 //! Count and Memory as they are filed.
 
 ghost use Rattle.sheet.specs.Filings.{count_filing, memory_filing};
-ghost use Rattle.std.proofs.Common.{rules};
+ghost use Rattle.std.proofs.Common.{lit≤};
 
 use crate::figures::Figures;
 use crate::filed_price::FiledPrice;
@@ -11,7 +11,7 @@ use price::memory::Memory;
 impl FiledPrice for Count {
     ghost filing = { count_filing };
 
-    ghost narrow = { Prim.search rules };
+    ghost narrow = { lit≤ tt };
 
     fn code() -> u8 {
         0
@@ -33,7 +33,7 @@ impl FiledPrice for Count {
 impl FiledPrice for Memory {
     ghost filing = { memory_filing };
 
-    ghost narrow = { Prim.search rules };
+    ghost narrow = { lit≤ tt };
 
     fn code() -> u8 {
         1

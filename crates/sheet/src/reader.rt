@@ -23,7 +23,7 @@ pub struct Reader<'a> {
 impl<'a> Reader<'a> {
     /// A reader at the first record of a sheet whose frame is good, for the price kind `P`.
     pub fn open<P: FiledPrice>(sheet: &'a [u8]) -> Result<Reader<'a>, Fault>
-        ensures { Opened (frame_of filing.code sheet.now) sheet.now filing.width result }
+        ensures { Opened (frame_of P.filing.code sheet.now) sheet.now P.filing.width result }
     {
         check_frame(sheet, P::code())?;
         Ok(Reader {

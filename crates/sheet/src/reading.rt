@@ -27,7 +27,7 @@ fn take_in(graph: &mut Graph, found: Record) -> Result<(), Fault>
 
 /// The graph of a sheet.
 fn graph_of<P: FiledPrice>(sheet: &[u8]) -> Result<Graph, Fault>
-    ensures { Made (read_of filing.code filing.width sheet.now) result }
+    ensures { Made (read_of P.filing.code P.filing.width sheet.now) result }
 {
     let mut reader = Reader::open::<P>(sheet)?;
     let mut graph = Graph::empty();
@@ -40,7 +40,7 @@ fn graph_of<P: FiledPrice>(sheet: &[u8]) -> Result<Graph, Fault>
 /// Writes the price of a stage at `n`, where there is room, and answers where the next one goes.
 fn file_price<P: FiledPrice>(entry: Entry, prices: &mut [P], n: usize) -> usize
     ensures next { result ≡ next_filed (entry_told entry.entry) (length prices.old) n }
-    ensures prices { prices.new ≡ filed filing (entry_told entry.entry) prices.old n }
+    ensures prices { prices.new ≡ filed P.filing (entry_told entry.entry) prices.old n }
 {
     match entry {
         Entry::Stage(field, _) => {
@@ -57,7 +57,7 @@ fn file_price<P: FiledPrice>(entry: Entry, prices: &mut [P], n: usize) -> usize
 
 /// Sets the first prices from the price fields of a sheet that reads, where there is room for each.
 fn set_prices<P: FiledPrice>(sheet: &[u8], prices: &mut [P]) -> Result<(), Fault>
-    ensures { (c : Contents) → read_of filing.code filing.width sheet.now ≡ Ok c → length c.fields ≤ length prices.old → (result ≡ Ok tt) × (prices.new ≡ map filing.price_of c.fields ++ drop (length c.fields) prices.old) }
+    ensures { (c : Contents) → read_of P.filing.code P.filing.width sheet.now ≡ Ok c → length c.fields ≤ length prices.old → (result ≡ Ok tt) × (prices.new ≡ map P.filing.price_of c.fields ++ drop (length c.fields) prices.old) }
 {
     let mut reader = Reader::open::<P>(sheet)?;
     let mut n = 0;
@@ -69,10 +69,10 @@ fn set_prices<P: FiledPrice>(sheet: &[u8], prices: &mut [P]) -> Result<(), Fault
 
 /// Reads a sheet: sets the graph and the first prices, one for each stage. A refused sheet leaves both as they were.
 pub fn read<P: FiledPrice>(sheet: &[u8], graph: &mut Graph, prices: &mut [P]) -> Result<(), Fault>
-    ensures answer { result ≡ read_answer filing sheet.now (length prices.old) }
-    ensures graph { plain graph.new ≡ graph_after filing sheet.now (length prices.old) (plain graph.old) }
-    ensures prices { prices.new ≡ prices_after filing sheet.now prices.old }
-    ensures in_words { ReadsInWords filing sheet.now result (plain graph.old) (plain graph.new) prices.old prices.new }
+    ensures answer { result ≡ read_answer P.filing sheet.now (length prices.old) }
+    ensures graph { plain graph.new ≡ graph_after P.filing sheet.now (length prices.old) (plain graph.old) }
+    ensures prices { prices.new ≡ prices_after P.filing sheet.now prices.old }
+    ensures in_words { ReadsInWords P.filing sheet.now result (plain graph.old) (plain graph.new) prices.old prices.new }
 {
     let made = graph_of::<P>(sheet)?;
     if prices.len() < made.stage_count() as usize {
