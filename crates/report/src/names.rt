@@ -77,7 +77,7 @@ pub(crate) fn push_holds<P: FiledPrice>(
     sheet: &[u8],
     held: StageSet,
 ) -> Result<(), AllocError>
-    ensures { OnOk result ((c : Contents) → read_of filing.code filing.width sheet.now ≡ Ok c → text.new.items ≡ text.old.items ++ hold_lines (stages held) 0 c.names) }
+    ensures { OnOk result ((c : Contents) → read_of P.filing.code P.filing.width sheet.now ≡ Ok c → text.new.items ≡ text.old.items ++ hold_lines (stages held) 0 c.names) }
 {
     let Ok(mut reader) = Reader::open::<P>(sheet) else {
         return Ok(());

@@ -26,7 +26,7 @@ fn push_price<P: FiledPrice>(
     word: &str,
     price: P,
 ) -> Result<(), AllocError>
-    ensures { OnOk result (text.new.items ≡ text.old.items ++ price_line P.Price.kind filing word.now price) }
+    ensures { OnOk result (text.new.items ≡ text.old.items ++ price_line P.Price.kind P.filing word.now price) }
 {
     let start = price_start(heap, word)?;
     text.extend_from_slice(start.as_bytes())?;
@@ -44,7 +44,7 @@ fn plan<P: FiledPrice>(
     prices: &[P],
 ) -> Result<Vec<u8>, AllocError>
     requires { graph.now.n ≤ length prices.now }
-    ensures { IfOk result (λ t. (c : Contents) → read_of filing.code filing.width sheet.now ≡ Ok c → plain graph.now ≡ c.graph → take c.graph.n prices.now ≡ map filing.price_of c.fields → t.items ≡ plan_text P.Price.kind filing c) }
+    ensures { IfOk result (λ t. (c : Contents) → read_of P.filing.code P.filing.width sheet.now ≡ Ok c → plain graph.now ≡ c.graph → take c.graph.n prices.now ≡ map P.filing.price_of c.fields → t.items ≡ plan_text P.Price.kind P.filing c) }
 {
     let held = graph.not_live();
     let n = graph.stage_count() as usize;
@@ -70,7 +70,7 @@ fn sheet_report<P: FiledPrice>(
     sheet: &[u8],
     prices: &mut [P],
 ) -> Result<Vec<u8>, AllocError>
-    ensures { IfOk result (λ t. t.items ≡ sheet_text P.Price.kind filing sheet.now (length prices.old)) }
+    ensures { IfOk result (λ t. t.items ≡ sheet_text P.Price.kind P.filing sheet.now (length prices.old)) }
 {
     let mut graph = Graph::empty();
     match read(sheet, &mut graph, prices) {

@@ -1,7 +1,6 @@
 use Rattle.std.proofs.Common.{Some, None, Err, sym, refl, ap, ◌∙◌, arith}
 use Rattle.std.proofs.lemmas.Bool.{and_from, lt-ltb, not_from_true, not_from_false}
 use Rattle.graph.specs.declared.fault.Cause.TheVariants.{AlreadyThere, LiveLoop, NoSuchStage}
-use Rattle.graph.specs.Faults.{answer}
 use Rattle.graph.proofs.Edits.{absent_end, both_linked, goes_on, link_post, link_tested, linked_rows, no_loop, same_plain, stops}
 use Rattle.graph.proofs.graph.Graph.link.Goals as goal
 
