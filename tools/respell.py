@@ -4,9 +4,10 @@
 usage: python3 tools/respell.py [ROOT]     (ROOT: a checkout; this one if none is named)
 
 A name joined by dashes becomes snake case (`price-at`, price_at), or upper camel case where it begins with a capital, as
-facts and types do (`Drops-freely`, DropsFreely). OWN lists the few that would fall together with another name or that hold
-a capital. Names that the source code or Rattle itself makes are left alone, and so is prose: comments and pages are turned only
-inside backquotes. Functions of src/, strings, inputs and outputs keep their names.
+facts and types do (`Drops-freely`, DropsFreely; Laid_out, which port.py made of `Laid-out`, becomes LaidOut). OWN
+lists the few that would fall together with another name or that hold a capital. Names that the source code or Rattle itself
+makes are left alone, and so is prose: comments and pages are turned only inside backquotes. Functions of src/, strings, inputs
+and outputs keep their names.
 """
 
 import os
@@ -30,7 +31,7 @@ OWN = {
 }
 DECLARED = re.compile(r"^\s*(?:pub\s+|abbrev\s+|unfoldable\s+|data\s+|record\s+)*([^\s:(){}]+)\s*(?:[({].*)?:(?:\s|$)")
 ANSWER = re.compile(r": goal\.")
-NAME = re.compile(r"(?<![\w'-])[A-Za-z][\w']*(?:-[\w']+)+(?![\w'-])")
+NAME = re.compile(r"(?<![\w'-])(?:[A-Za-z][\w']*(?:-[\w']+)+|[A-Z][a-z]+(?:_[a-z]+)+)(?![\w'-])")
 QUOTED = re.compile(r"`[^`]*`")
 CLAUSE = re.compile(r"^\s*(?:ghost |requires|ensures|pub ghost )")
 
@@ -50,7 +51,7 @@ def lines(path):
 
 def respelled(name):
     if name[0].isupper():
-        return "".join(part[:1].upper() + part[1:] for part in name.split("-"))
+        return "".join(part[:1].upper() + part[1:] for part in re.split("[-_]", name))
     return name.replace("-", "_")
 
 

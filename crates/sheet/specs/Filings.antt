@@ -19,7 +19,7 @@ pub record Filing (P : Type 0) : Type 0 where
 abbrev pub count_filing : Filing Count
 count_filing = record { code = 0; width = 0; price_of = λ field. count 1; figures_of = λ c. One c.holds }
 
--- The number that four bytes stand for, big_endian; other fields stand for 0.
+-- The number that four bytes stand for, big-endian; other fields stand for 0.
 abbrev pub big_endian : List ℕ → ℕ
 big_endian [] = 0
 big_endian (a ∷ []) = 0

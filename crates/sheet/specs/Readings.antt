@@ -7,7 +7,7 @@ use Rattle.graph.specs.declared.graph.Graph.{Graph}
 use Rattle.graph.specs.Graphs.{PlainGraph, plain}
 use Rattle.sheet_format.specs.Entries.{Entry, stage, link, live}
 use Rattle.sheet_format.specs.Faulty.{Refused, at}
-use Rattle.sheet_format.specs.Layout.{Contents, Laid_out}
+use Rattle.sheet_format.specs.Layout.{Contents, LaidOut}
 use Rattle.sheet_format.specs.Promise.{ReadsTheLayout}
 use Rattle.sheet_format.specs.Reading.{check, read_of, then}
 use Rattle.sheet.specs.Filings.{Filing}
@@ -39,9 +39,9 @@ prices_after F bytes old =
 -- sheet that is laid out is read, if there is room for its prices, and else refused with 11; a faulty one is
 -- refused with its first fault; every sheet is one of the two, and a refusal leaves graph and prices as they were.
 pub record ReadsInWords {P : Type 0} (F : Filing P) (bytes : List ℕ) (r : Result (Unit {0}) Fault) (g h : PlainGraph) (ps qs : List P) : Type 0 where
-  pub laid_out_is_read : (c : Contents) → Laid_out F.code F.width bytes c → c.graph.n ≤ length ps
+  pub laid_out_is_read : (c : Contents) → LaidOut F.code F.width bytes c → c.graph.n ≤ length ps
       → (r ≡ Ok tt) × (h ≡ c.graph) × (qs ≡ map F.price_of c.fields ++ drop c.graph.n ps)
-  pub too_few_prices : (c : Contents) → Laid_out F.code F.width bytes c → length ps < c.graph.n
+  pub too_few_prices : (c : Contents) → LaidOut F.code F.width bytes c → length ps < c.graph.n
       → (r ≡ Err (at TablesTooSmall Call 0)) × (h ≡ g) × (qs ≡ ps)
   pub faulty_is_refused : (f : Fault) → Refused F.code F.width bytes f → (r ≡ Err f) × (h ≡ g) × (qs ≡ ps)
   pub one_of_the_two : ReadsTheLayout F.code F.width bytes

@@ -5,7 +5,7 @@ use Rattle.graph.specs.declared.fault.Fault.{Fault}
 use Rattle.graph.specs.declared.fault.Layer.TheVariants.{Graph, Record}
 use Rattle.graph.proofs.Edits.{no_loop_without_links}
 use Rattle.sheet_format.specs.Entries.{all_bytes, body, record_bytes}
-use Rattle.sheet_format.specs.Layout.{Contents, Fit, Framed, Laid_out}
+use Rattle.sheet_format.specs.Layout.{Contents, Fit, Framed, LaidOut}
 use Rattle.sheet_format.specs.Faulty.{Refused, at, bad_body, bad_kind, bad_length, bad_size, bad_version, unfit}
 use Rattle.sheet_format.specs.Reading.{no_contents, read_of, records_from, taken_in, then}
 use Rattle.sheet_format.specs.Promise.{ReadingAcceptsExactlyTheLayout}
@@ -31,7 +31,7 @@ module _ (code width : ℕ) (bytes : List ℕ) where
       ap (λ r. then r (λ _. records_from width 4 0 (drop 4 bytes) no_contents)) (frame_accepted code bytes records f)
       ∙ ap (λ bs. records_from width 4 0 (drop 4 bs) no_contents) f.laid
 
-  laid_out_read : (c : Contents) → Laid_out code width bytes c → read_of code width bytes ≡ Ok c
+  laid_out_read : (c : Contents) → LaidOut code width bytes c → read_of code width bytes ≡ Ok c
   unfolding records_from
   laid_out_read c l =
       let run = fitting_read width l.entries l.fit [] in
@@ -72,7 +72,7 @@ module _ (code width : ℕ) (bytes : List ℕ) where
 
 -- an answer is contents or a fault, and not two
 either : (code width : ℕ) (bytes : List ℕ) (r : Result Contents Fault) → Verdict code width bytes r
-    → ((c : Contents) × Laid_out code width bytes c) ⊎ ((f : Fault) × Refused code width bytes f)
+    → ((c : Contents) × LaidOut code width bytes c) ⊎ ((f : Fault) × Refused code width bytes f)
 either code width bytes (Ok c) v = inl (c, v)
 either code width bytes (Err f) v = inr (f, v)
 

@@ -5,7 +5,7 @@ use Rattle.graph.specs.declared.fault.Cause.TheVariants.{RecordBody}
 use Rattle.graph.specs.declared.fault.Fault.{Fault}
 use Rattle.graph.specs.declared.fault.Layer.TheVariants.{Graph, Record}
 use Rattle.sheet_format.specs.Entries.{Entry, stage, link, live, all_bytes, body, record_bytes, Formed}
-use Rattle.sheet_format.specs.Layout.{Contents, Fit, Framed, Laid_out, Says}
+use Rattle.sheet_format.specs.Layout.{Contents, Fit, Framed, LaidOut, Says}
 use Rattle.sheet_format.specs.Faulty.{Refused, at, bad_body, bad_length, unfit}
 use Rattle.sheet_format.specs.Reading.{no_contents, record_of, records_from, taken_in, then}
 use Rattle.sheet_format.proofs.Bodies.{Judged, formed, ill_formed, ill_sized, judged, judged_one}
@@ -41,7 +41,7 @@ bytes_last_length es e =
 
 -- ---- what reading records finds is so
 abbrev pub Verdict : ℕ → ℕ → List ℕ → Result Contents Fault → Type 0
-Verdict code width bytes (Ok c) = Laid_out code width bytes c
+Verdict code width bytes (Ok c) = LaidOut code width bytes c
 Verdict code width bytes (Err f) = Refused code width bytes f
 
 module _ (code width : ℕ) (bytes : List ℕ) where
@@ -106,18 +106,18 @@ record_read width place e rest f =
     (formed e (body_long e) (omega (arith, length-append (body e) rest)) f (sym (take_at (body e) rest (length (body e)) refl)))
 
 -- from a place, these contents and these bytes on, reading goes on as from others, which the entries say
-pub record Goes_on (width place place' : ℕ) (bs bs' : List ℕ) (c : Contents) (es : List Entry) : Type 0 where
+pub record GoesOn (width place place' : ℕ) (bs bs' : List ℕ) (c : Contents) (es : List Entry) : Type 0 where
   pub contents : Contents
   pub says : Says es contents
   pub same : records_from width place 0 bs c ≡ records_from width place' 0 bs' contents
 
 one_read : (width place : ℕ) (es : List Entry) (c : Contents) → Says es c → (e : Entry) → Formed width e → Follows es e → (rest : List ℕ)
-    → Goes_on width place (place + (1 + length (body e))) (record_bytes e ++ rest) rest c (es ++ e ∷ [])
+    → GoesOn width place (place + (1 + length (body e))) (record_bytes e ++ rest) rest c (es ++ e ∷ [])
 unfolding records_from
 one_read width place es c s e f follows rest = go (taken_in c e (place + 1)) refl (step es c s (place + 1) e)
   where
     go : (r : Result Contents Fault) → taken_in c e (place + 1) ≡ r → Taken es e (place + 1) r
-        → Goes_on width place (place + (1 + length (body e))) (record_bytes e ++ rest) rest c (es ++ e ∷ [])
+        → GoesOn width place (place + (1 + length (body e))) (record_bytes e ++ rest) rest c (es ++ e ∷ [])
     go r is (refused cause un) = absurd (follows_or_unfit es e cause follows un)
     go r is (taken d f' says) =
         let on : place + 1 + length (body e) ≡ place + (1 + length (body e)) = omega arith in
@@ -133,7 +133,7 @@ one_read width place es c s e f follows rest = go (taken_in c e (place + 1)) ref
         }
 
 all_read : (width : ℕ) (more : List Entry) (place : ℕ) (es : List Entry) (c : Contents) → Says es c → Fit width (es ++ more) → (rest : List ℕ)
-    → Goes_on width place (place + length (all_bytes more)) (all_bytes more ++ rest) rest c (es ++ more)
+    → GoesOn width place (place + length (all_bytes more)) (all_bytes more ++ rest) rest c (es ++ more)
 all_read width [] place es c s fit rest =
     let on : place ≡ place + 0 = omega arith in
     record {
@@ -158,5 +158,5 @@ all_read width (e ∷ more) place es c s fit rest =
     }
 
 pub fitting_read : (width : ℕ) (es : List Entry) → Fit width es → (rest : List ℕ)
-    → Goes_on width 4 (4 + length (all_bytes es)) (all_bytes es ++ rest) rest no_contents es
+    → GoesOn width 4 (4 + length (all_bytes es)) (all_bytes es ++ rest) rest no_contents es
 fitting_read width es fit rest = all_read width es 4 [] no_contents says_nothing fit rest

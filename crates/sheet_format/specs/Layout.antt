@@ -52,7 +52,7 @@ pub record Says (es : List Entry) (c : Contents) : Type 0 where
   pub names : c.names ≡ names_in es
 
 -- The bytes are laid out as these contents, for a price kind with this code and field width.
-pub record Laid_out (code width : ℕ) (bytes : List ℕ) (c : Contents) : Type 0 where
+pub record LaidOut (code width : ℕ) (bytes : List ℕ) (c : Contents) : Type 0 where
   pub entries : List Entry
   pub framed : Framed code bytes (all_bytes entries)
   pub fit : Fit width entries
