@@ -1,2 +1,2 @@
--- Costs stage by stage, and the laws of the two price kinds.
+-- Costs stage by stage.
 pub mod Costs

@@ -1,4 +1,4 @@
--- The two price kinds, and the prices that a cost adds up.
+-- The two price kinds with the proofs of their laws, and the prices that a cost adds up.
 pub mod Counts
 pub mod Memories
 pub mod Costs
