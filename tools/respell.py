@@ -5,9 +5,9 @@ usage: python3 tools/respell.py [ROOT]     (ROOT: a checkout; this one if none i
 
 A name joined by dashes becomes snake case (`price-at`, price_at), or upper camel case where it begins with a capital, as
 facts and types do (`Drops-freely`, DropsFreely; Laid_out, which port.py made of `Laid-out`, becomes LaidOut). OWN
-lists the few that would fall together with another name or that hold a capital. Names that the source code or Rattle itself
-makes are left alone, and so is prose: comments and pages are turned only inside backquotes. Functions of src/, strings, inputs
-and outputs keep their names.
+lists the few that would fall together with another name or that hold a capital, and five that no line declares. Names that the
+source code or Rattle itself makes are left alone, and so is prose: comments and pages are turned only inside backquotes.
+Functions of src/, strings, inputs, outputs and the edits in must-fail/ stay as they are.
 """
 
 import os
@@ -90,7 +90,7 @@ def main():
         raise SystemExit(f"respell: names fall together: {sorted(together)}")
     turned = 0
     pages = [p for p in files(root, ".md") if os.path.relpath(p, root) not in ("docs/PORT.md",)]
-    for path in [*files(os.path.join(root, "crates"), ".antt", ".rt", ".edit"), *pages]:
+    for path in [*files(os.path.join(root, "crates"), ".antt", ".rt"), *pages]:
         new = turn(path, table)
         if new != "".join(lines(path)):
             turned += 1

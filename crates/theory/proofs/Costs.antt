@@ -102,7 +102,7 @@ module _ (P : Type 0) (K : Kind P) (laws : Lawful K) (price : ℕ → P) where
         (λ (q : s ≢ k). rw (ne_eqb s k q) (f s (omega arith)))
         (cases_eq s k)
 
-    -- what holds of the sets with k and of the sets without holds of both
+    -- what holds of the sets with k, and of those without k, holds of all
     at_k : (k : ℕ) (B : Stages) (X : Stages → Type 0) → ((Z : Stages) → Agree k (put B k true) Z → Q Z → X Z) → ((Z : Stages) → Agree k (put B k false) Z → Q Z → X Z)
         → (Z : Stages) → Agree (suc k) B Z → Q Z → X Z
     at_k k B X x y Z a q =
