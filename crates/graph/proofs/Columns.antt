@@ -8,6 +8,7 @@ use Rattle.theory.specs.Walks.{Walk}
 use Rattle.theory.proofs.Reaching.{reaching_decides_walks}
 use Rattle.graph.specs.declared.digraph.Digraph.{Digraph}
 use Rattle.graph.specs.Digraphs.{links}
+use Rattle.graph.specs.StageSets.{words}
 use Rattle.graph.proofs.Loops.{within_rows}
 use Rattle.graph.proofs.Rows.{rows_of}
 
@@ -46,4 +47,4 @@ reaches_inside L S f (suc k) a b e =
     (or_cases _ _ e)
 
 pub reach_walks : (g : Digraph) (a b : ℕ) → Decides (reaches 64 (links g) a b) (Walk (Link (links g)) a b)
-reach_walks g = reaching_decides_walks 64 (links g) (within_rows g.rows (rows_of g))
+reach_walks g = reaching_decides_walks 64 (links g) (within_rows (words g.rows) (rows_of g))

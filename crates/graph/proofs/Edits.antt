@@ -21,6 +21,7 @@ use Rattle.graph.specs.Edits.{Adds, Changed, Frees, LinksUp, MarksLive, TakesOff
 use Rattle.graph.specs.Faults.{after, answer, cause_of, number, unless}
 use Rattle.graph.specs.Graphs.{PlainGraph, Sound, bare, free_refusal, freed, link_refusal, linked_too, links_of, live_links, live_looped, live_of, live_refusal, live_too, plain, unlink_refusal, unlinked}
 use Rattle.graph.specs.Marks.{linked, marked}
+use Rattle.graph.specs.StageSets.{words}
 use Rattle.graph.proofs.Marks.{marked_minus, marked_none, marked_one, marked_set, same_words}
 use Rattle.graph.proofs.Rows.{Rows, no_rows, unlinked_rows, rows_of, same_rows, with_mark_links, with_mark_rows, without_mark_links, without_mark_rows}
 
@@ -29,8 +30,8 @@ pub sound : (g : Graph) → Sound (plain g)
 sound g =
     record {
       few = g.few;
-      long = g.links.long;
-      fit = g.links.fit;
+      long = (rows_of g.links).long;
+      fit = (rows_of g.links).fit;
       inside = λ a b h.
           let p = and_parts _ _ (g.links.inside a b h) in
           (ltb-true a g.n (sym (g.numbered a) ∙ p.0), ltb-true b g.n (sym (g.numbered b) ∙ p.1));
@@ -42,63 +43,57 @@ sound g =
 pub sound_rows : (g : PlainGraph) → Sound g → Rows g.rows
 sound_rows g s = record { long = s.long; fit = s.fit }
 
--- ---- causes told apart
-code : Option Cause → ℕ
-code None = 0
-code (Some c) = number c
-
+-- ---- what the tests refuse
 -- a refusal that goes by three tests
 pub adds : (t u v : Bool) (there already : Type 0) (L : Links) → Decides t there → Decides u already → (t ≡ true → Decides v (Loop L))
     → Adds (unless t NoSuchStage (unless (not u) AlreadyThere (unless (not v) LiveLoop None))) there already L
-unfolding code
 adds false u v there already L d e f =
     record {
       no_such_stage = (λ _ h. both_ways false refl (d.1 h), λ _. refl);
-      already_there = (λ q. absurd (omega (arith, ap code q)), λ h. absurd (both_ways false refl (d.1 h.0)));
-      live_loop = (λ q. absurd (omega (arith, ap code q)), λ h. absurd (both_ways false refl (d.1 h.0)));
-      accepted = (λ q. absurd (omega (arith, ap code q)), λ h. absurd (both_ways false refl (d.1 h.0)));
+      already_there = (λ q. cc, λ h. absurd (both_ways false refl (d.1 h.0)));
+      live_loop = (λ q. cc, λ h. absurd (both_ways false refl (d.1 h.0)));
+      accepted = (λ q. cc, λ h. absurd (both_ways false refl (d.1 h.0)));
     }
 adds true true v there already L d e f =
     record {
-      no_such_stage = (λ q. absurd (omega (arith, ap code q)), λ h. absurd (h (d.0 refl)));
+      no_such_stage = (λ q. cc, λ h. absurd (h (d.0 refl)));
       already_there = (λ _. (d.0 refl, e.0 refl), λ _. refl);
-      live_loop = (λ q. absurd (omega (arith, ap code q)), λ h. absurd (h.1 (e.0 refl)));
-      accepted = (λ q. absurd (omega (arith, ap code q)), λ h. absurd (h.1 (e.0 refl)));
+      live_loop = (λ q. cc, λ h. absurd (h.1 (e.0 refl)));
+      accepted = (λ q. cc, λ h. absurd (h.1 (e.0 refl)));
     }
 adds true false true there already L d e f =
     record {
-      no_such_stage = (λ q. absurd (omega (arith, ap code q)), λ h. absurd (h (d.0 refl)));
-      already_there = (λ q. absurd (omega (arith, ap code q)), λ h. absurd (both_ways false refl (e.1 h.1)));
+      no_such_stage = (λ q. cc, λ h. absurd (h (d.0 refl)));
+      already_there = (λ q. cc, λ h. absurd (both_ways false refl (e.1 h.1)));
       live_loop = (λ _. (d.0 refl, λ h. both_ways false refl (e.1 h), (f refl).0 refl), λ _. refl);
-      accepted = (λ q. absurd (omega (arith, ap code q)), λ h. absurd (h.2 ((f refl).0 refl)));
+      accepted = (λ q. cc, λ h. absurd (h.2 ((f refl).0 refl)));
     }
 adds true false false there already L d e f =
     record {
-      no_such_stage = (λ q. absurd (omega (arith, ap code q)), λ h. absurd (h (d.0 refl)));
-      already_there = (λ q. absurd (omega (arith, ap code q)), λ h. absurd (both_ways false refl (e.1 h.1)));
-      live_loop = (λ q. absurd (omega (arith, ap code q)), λ h. absurd (both_ways false refl ((f refl).1 h.2)));
+      no_such_stage = (λ q. cc, λ h. absurd (h (d.0 refl)));
+      already_there = (λ q. cc, λ h. absurd (both_ways false refl (e.1 h.1)));
+      live_loop = (λ q. cc, λ h. absurd (both_ways false refl ((f refl).1 h.2)));
       accepted = (λ _. (d.0 refl, λ h. both_ways false refl (e.1 h), λ h. both_ways false refl ((f refl).1 h)), λ _. refl);
     }
 
 pub takes_off : (t u : Bool) (there present : Type 0) → Decides t there → Decides u present
     → TakesOff (unless t NoSuchStage (unless u NotThere None)) there present
-unfolding code
 takes_off false u there present d e =
     record {
       no_such_stage = (λ _ h. both_ways false refl (d.1 h), λ _. refl);
-      not_there = (λ q. absurd (omega (arith, ap code q)), λ h. absurd (both_ways false refl (d.1 h.0)));
-      accepted = (λ q. absurd (omega (arith, ap code q)), λ h. absurd (both_ways false refl (d.1 h.0)));
+      not_there = (λ q. cc, λ h. absurd (both_ways false refl (d.1 h.0)));
+      accepted = (λ q. cc, λ h. absurd (both_ways false refl (d.1 h.0)));
     }
 takes_off true false there present d e =
     record {
-      no_such_stage = (λ q. absurd (omega (arith, ap code q)), λ h. absurd (h (d.0 refl)));
+      no_such_stage = (λ q. cc, λ h. absurd (h (d.0 refl)));
       not_there = (λ _. (d.0 refl, λ h. both_ways false refl (e.1 h)), λ _. refl);
-      accepted = (λ q. absurd (omega (arith, ap code q)), λ h. absurd (both_ways false refl (e.1 h.1)));
+      accepted = (λ q. cc, λ h. absurd (both_ways false refl (e.1 h.1)));
     }
 takes_off true true there present d e =
     record {
-      no_such_stage = (λ q. absurd (omega (arith, ap code q)), λ h. absurd (h (d.0 refl)));
-      not_there = (λ q. absurd (omega (arith, ap code q)), λ h. absurd (h.1 (e.0 refl)));
+      no_such_stage = (λ q. cc, λ h. absurd (h (d.0 refl)));
+      not_there = (λ q. cc, λ h. absurd (h.1 (e.0 refl)));
       accepted = (λ _. (d.0 refl, e.0 refl), λ _. refl);
     }
 
@@ -140,11 +135,11 @@ no_loop_without_links L none l = go l.rest l.closed
 pub same_plain : (n : ℕ) (rows rows' : List ℕ) (live live' : ℕ) → rows ≡ rows' → live ≡ live' → ◌≡◌ {A = PlainGraph} (record { n = n; rows = rows; live = live }) (record { n = n; rows = rows'; live = live' })
 same_plain n rows rows' live live' p q = λ i. record { n = n; rows = p i; live = q i }
 
-pub bare_again : (n : ℕ) (links : Digraph) (live : StageSet) → ((a b : ℕ) → linked links.rows a b ≡ false) → ((s : ℕ) → marked live.word s ≡ false)
-    → ◌≡◌ {A = PlainGraph} (record { n = n; rows = links.rows; live = live.word }) (bare n)
+pub bare_again : (n : ℕ) (links : Digraph) (live : StageSet) → ((a b : ℕ) → linked (words links.rows) a b ≡ false) → ((s : ℕ) → marked live.word s ≡ false)
+    → ◌≡◌ {A = PlainGraph} (record { n = n; rows = words links.rows; live = live.word }) (bare n)
 bare_again n links live no-links no-live =
     same_plain n _ _ _ _
-    (same_rows links.rows (replicate 64 0) (rows_of links) no_rows (λ a b. no-links a b ∙ sym (unlinked_rows a b)))
+    (same_rows (words links.rows) (replicate 64 0) (rows_of links) no_rows (λ a b. no-links a b ∙ sym (unlinked_rows a b)))
     (same_words live.word 0 live.fits (omega arith) (λ s. no-live s ∙ sym (marked_none s)))
 
 -- ---- the four edits in words
@@ -325,15 +320,15 @@ module _ (g : Graph) (h : PlainGraph) (v : ℕ) (site : Site) (r : Result (Unit 
 
 -- ---- what the code's parts leave, as words
 module _ (g : Graph) (d : Digraph) where
-  pub linked_rows : (u v : ℕ) → u < g.n → v < g.n → ((a b : ℕ) → linked d.rows a b ≡ with_link (linked g.links.rows) u v a b) → d.rows ≡ (linked_too (plain g) u v).rows
+  pub linked_rows : (u v : ℕ) → u < g.n → v < g.n → ((a b : ℕ) → linked (words d.rows) a b ≡ with_link (linked (words g.links.rows)) u v a b) → words d.rows ≡ (linked_too (plain g) u v).rows
   linked_rows u v hu hv e =
       let few = g.few in
-      same_rows _ _ (rows_of d) (with_mark_rows g.links.rows u v (rows_of g.links) (omega arith))
+      same_rows _ _ (rows_of d) (with_mark_rows (words g.links.rows) u v (rows_of g.links) (omega arith))
       (λ a b. e a b ∙ sym (link_links (plain g) (sound g) u v hu a b))
 
-  pub dropped_rows : (u v : ℕ) → u < g.n → v < g.n → ((a b : ℕ) → linked d.rows a b ≡ dropped (linked g.links.rows) u v a b) → d.rows ≡ (unlinked (plain g) u v).rows
+  pub dropped_rows : (u v : ℕ) → u < g.n → v < g.n → ((a b : ℕ) → linked (words d.rows) a b ≡ dropped (linked (words g.links.rows)) u v a b) → words d.rows ≡ (unlinked (plain g) u v).rows
   dropped_rows u v hu hv e =
-      same_rows _ _ (rows_of d) (without_mark_rows g.links.rows u v (rows_of g.links))
+      same_rows _ _ (rows_of d) (without_mark_rows (words g.links.rows) u v (rows_of g.links))
       (λ a b. e a b ∙ sym (unlink_links (plain g) (sound g) u v hu hv a b))
 
 module _ (g : Graph) (m : StageSet) where
@@ -362,7 +357,7 @@ no_loop t L M d e f l = both_ways t f ((tested t L M d e).1 l)
 -- the loop test that each adding edit makes
 pub mark_tested : (g : Graph) (m : StageSet) (v : ℕ) (t : Bool) (L : Links) → v < g.n
     → ((s : ℕ) → marked m.word s ≡ (marked g.live.word s || eqb s v && ltb v 64))
-    → ((a b : ℕ) → L a b ≡ between (linked g.links.rows) (marked m.word) a b) → Decides t (Loop L) → live_looped (live_too (plain g) v) ≡ t
+    → ((a b : ℕ) → L a b ≡ between (linked (words g.links.rows)) (marked m.word) a b) → Decides t (Loop L) → live_looped (live_too (plain g) v) ≡ t
 mark_tested g m v t L h more is d =
     same_from_decides _ t (mark_decides (plain g) (sound g) v) (tested t L _ d (λ a b. is a b ∙ rw (same a, same b)))
   where
@@ -370,8 +365,8 @@ mark_tested g m v t L h more is d =
     same s = let few = g.few in more s ∙ grind (arith, nat_tests)
 
 pub link_tested : (g : Graph) (d : Digraph) (u v : ℕ) (t : Bool) (L : Links) → u < g.n → v < g.n
-    → ((a b : ℕ) → linked d.rows a b ≡ with_link (linked g.links.rows) u v a b)
-    → ((a b : ℕ) → L a b ≡ between (linked d.rows) (marked g.live.word) a b) → Decides t (Loop L) → live_looped (linked_too (plain g) u v) ≡ t
+    → ((a b : ℕ) → linked (words d.rows) a b ≡ with_link (linked (words g.links.rows)) u v a b)
+    → ((a b : ℕ) → L a b ≡ between (linked (words d.rows)) (marked g.live.word) a b) → Decides t (Loop L) → live_looped (linked_too (plain g) u v) ≡ t
 link_tested g d u v t L hu hv more is e =
     same_from_decides _ t (link_decides (plain g) (sound g) u v hu hv) (tested t L _ e (λ a b. is a b ∙ ap (λ x. x && live_of (plain g) a && live_of (plain g) b) (more a b)))
 

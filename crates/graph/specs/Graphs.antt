@@ -7,6 +7,7 @@ use Rattle.graph.specs.declared.fault.Cause.TheVariants.{TooManyStages, NoSuchSt
 use Rattle.graph.specs.declared.graph.Graph.{Graph}
 use Rattle.graph.specs.Faults.{unless}
 use Rattle.graph.specs.Marks.{linked, marked}
+use Rattle.graph.specs.StageSets.{words}
 
 -- A graph's figures, without the facts that its type carries: the number of its stages, their rows of links,
 -- and the word of its live marks.
@@ -17,7 +18,7 @@ pub record PlainGraph : Type 0 where
 
 -- The figures of a graph.
 abbrev pub plain : Graph → PlainGraph
-plain g = record { n = g.n; rows = g.links.rows; live = g.live.word }
+plain g = record { n = g.n; rows = words g.links.rows; live = g.live.word }
 
 -- The links of a graph.
 abbrev pub links_of : PlainGraph → Links

@@ -1,4 +1,4 @@
-ghost use Rattle.std.specs.Prelude.{◌≡◌, ℕ, false, not, ◌&&◌, ◌||◌, if◌then◌else◌, Decides, ◌==◌, nat_lt};
+ghost use Rattle.std.specs.Prelude.{◌≡◌, ℕ, ◌<◌, false, not, ◌&&◌, ◌||◌, if◌then◌else◌, Decides, ◌==◌, nat_lt};
 ghost use Rattle.theory.specs.Loops.{Link, Loop, between};
 ghost use Rattle.theory.specs.Mates.{mates, unpaired};
 ghost use Rattle.theory.specs.Moves.{dropped, held, passed, with_link, without_stage};
@@ -7,8 +7,9 @@ ghost use Rattle.graph.specs.Digraphs.{links};
 ghost use Rattle.graph.specs.StageSets.{stages};
 
 use super::Digraph;
-use super::rows::{is_marked, rows_among, rows_bridged, rows_past};
+use super::rows::{row, rows_among, rows_bridged, rows_past};
 use crate::stage_set::StageSet;
+use std::array;
 
 impl Digraph {
     /// The digraph on these stages with no links.
@@ -18,7 +19,7 @@ impl Digraph {
     {
         Digraph {
             stages: on,
-            rows: [0; 64],
+            rows: [StageSet::empty(); 64],
         }
     }
 
@@ -33,10 +34,7 @@ impl Digraph {
     pub fn is_linked(&self, from: u8, to: u8) -> bool
         ensures { result ≡ links self.now from to }
     {
-        if from >= 64 || to >= 64 {
-            return false;
-        }
-        is_marked(self.rows[from as usize], to)
+        self.after(from).has(to)
     }
 
     /// Adds a stage with no links; a number from 64 on names no stage and adds none.
@@ -56,7 +54,7 @@ impl Digraph {
         if !self.stages.has(from) || !self.stages.has(to) {
             return false;
         }
-        self.rows[from as usize] |= 1 << to;
+        self.rows[from as usize] = self.rows[from as usize].with(to);
         true
     }
 
@@ -65,10 +63,9 @@ impl Digraph {
         ensures stages { self.new.stages ≡ self.old.stages }
         ensures links { (a b : ℕ) → links self.new a b ≡ dropped (links self.old) from to a b }
     {
-        if from >= 64 || to >= 64 {
-            return;
+        if self.is_linked(from, to) {
+            self.rows[from as usize] = self.rows[from as usize].without(to);
         }
-        self.rows[from as usize] &= !(1 << to);
     }
 
     /// Holds a stage: removes it with its links. A stage that is not there leaves the digraph as it was.
@@ -100,12 +97,7 @@ impl Digraph {
     pub fn after(&self, v: u8) -> StageSet
         ensures { (s : ℕ) → stages result s ≡ links self.now v s }
     {
-        if v >= 64 {
-            return StageSet::empty();
-        }
-        StageSet {
-            word: self.rows[v as usize],
-        }
+        row(&self.rows, usize::from(v))
     }
 
     /// The stages before a stage: those with a link to it.
@@ -133,13 +125,17 @@ impl Digraph {
         ensures stages { result.stages ≡ self.now.stages }
         ensures links { (a b : ℕ) → links result a b ≡ unpaired (links self.now) a b }
     {
-        let mut rows = [0; 64];
-        for u in 0..64u8 {
-            rows[u as usize] = self.after(u).difference(self.mates(u)).word;
-        }
         Digraph {
             stages: self.stages,
-            rows,
+            rows: array::from_fn(
+                |u| -> StageSet
+                    requires { u < 64 }
+                    ensures { (s : ℕ) → stages result s ≡ unpaired (links self.entry.now) u s }
+                {
+                    let u = u as u8;
+                    self.after(u).difference(self.mates(u))
+                },
+            ),
         }
     }
 
@@ -166,7 +162,7 @@ impl Digraph {
         let stages = self.stages.intersection(set);
         Digraph {
             stages,
-            rows: rows_among(&self.rows, stages.word),
+            rows: rows_among(&self.rows, stages),
         }
     }
 
@@ -176,7 +172,7 @@ impl Digraph {
     {
         let mut rows = self.rows;
         for v in (0..64u8).rev() {
-            if is_marked(rows[v as usize], v) {
+            if row(&rows, usize::from(v)).has(v) {
                 return true;
             }
             rows = rows_past(&rows, v);

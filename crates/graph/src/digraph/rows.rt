@@ -1,71 +1,59 @@
-//! Rows of links as plain words: functions from rows to rows, on whole words.
+//! Rows of links, each the set of the stages after one stage: functions from rows to rows.
 
-ghost use Rattle.std.specs.Prelude.{◌≡◌, ℕ, ◌^◌, ◌<◌, ◌&&◌, ◌||◌, slice_index};
+ghost use Rattle.std.specs.Prelude.{◌≡◌, ℕ, ◌&&◌, ◌||◌};
 ghost use Rattle.theory.specs.Loops.{between};
 ghost use Rattle.theory.specs.Moves.{passed};
-ghost use Rattle.graph.specs.Marks.{linked, marked};
+ghost use Rattle.graph.specs.Marks.{linked};
+ghost use Rattle.graph.specs.StageSets.{stages, words};
 
-/// Whether the word marks stage `s`.
-pub(crate) fn is_marked(word: u64, s: u8) -> bool
-    requires { s < 64 }
-    ensures { result ≡ marked word s }
-{
-    (word >> s) & 1 == 1
-}
+use crate::stage_set::StageSet;
+use std::array;
 
-/// The row with the marks of `after` added, if it marks `v`.
-fn row_bridged(row: u64, after: u64, v: u8) -> u64
-    requires { v < 64 }
-    ensures { (w : ℕ) → marked result w ≡ (marked row w || marked row v && marked after w) }
+/// The row of stage `u`, which is empty for a number from 64 on.
+pub(crate) fn row(rows: &[StageSet; 64], u: usize) -> StageSet
+    ensures { (w : ℕ) → stages result w ≡ linked (words rows.now) u w }
 {
-    if is_marked(row, v) {
-        return row | after;
-    }
-    row
+    rows.get(u).copied().unwrap_or(StageSet::empty())
 }
 
 /// The rows with a link from each stage before `v` to each stage after it.
-pub(crate) fn rows_bridged(rows: &[u64; 64], v: u8) -> [u64; 64]
-    requires { v < 64 }
-    ensures links { (a b : ℕ) → linked result a b ≡ (linked rows.now a b || linked rows.now a v && linked rows.now v b) }
-    ensures fit { (u : ℕ) → slice_index result u < 2 ^ 64 }
+pub(crate) fn rows_bridged(rows: &[StageSet; 64], v: u8) -> [StageSet; 64]
+    ensures { (a b : ℕ) → linked (words result) a b ≡ (linked (words rows.now) a b || linked (words rows.now) a v && linked (words rows.now) v b) }
 {
-    let after = rows[v as usize];
-    let mut more = [0; 64];
-    for u in 0..64usize {
-        more[u] = row_bridged(rows[u], after, v);
-    }
-    more
+    array::from_fn(
+        |u| -> StageSet
+            ensures { (w : ℕ) → stages result w ≡ (linked (words rows.entry.now) u w || linked (words rows.entry.now) u v && linked (words rows.entry.now) v w) }
+        {
+            let own = row(rows, u);
+            if own.has(v) {
+                own.union(row(rows, usize::from(v)))
+            } else {
+                own
+            }
+        },
+    )
 }
 
 /// The rows once stage `v` is passed.
-pub(crate) fn rows_past(rows: &[u64; 64], v: u8) -> [u64; 64]
-    requires { v < 64 }
-    ensures links { (a b : ℕ) → linked result a b ≡ passed (linked rows.now) v a b }
-    ensures fit { (u : ℕ) → slice_index result u < 2 ^ 64 }
+pub(crate) fn rows_past(rows: &[StageSet; 64], v: u8) -> [StageSet; 64]
+    ensures { (a b : ℕ) → linked (words result) a b ≡ passed (linked (words rows.now)) v a b }
 {
-    rows_among(&rows_bridged(rows, v), !(1 << v))
-}
-
-/// The row of stage `u` among the links between two stages of a set.
-fn row_among(row: u64, set: u64, u: u8) -> u64
-    requires { u < 64 }
-    ensures { (w : ℕ) → marked result w ≡ (marked row w && marked set u && marked set w) }
-{
-    if is_marked(set, u) {
-        return row & set;
-    }
-    0
+    rows_among(&rows_bridged(rows, v), StageSet::below(64).without(v))
 }
 
 /// The rows of the links between two stages of a set.
-pub(crate) fn rows_among(rows: &[u64; 64], set: u64) -> [u64; 64]
-    ensures links { (a b : ℕ) → linked result a b ≡ between (linked rows.now) (marked set) a b }
-    ensures fit { (u : ℕ) → slice_index result u < 2 ^ 64 }
+pub(crate) fn rows_among(rows: &[StageSet; 64], set: StageSet) -> [StageSet; 64]
+    ensures { (a b : ℕ) → linked (words result) a b ≡ between (linked (words rows.now)) (stages set) a b }
 {
-    let mut left = [0; 64];
-    for u in 0..64u8 {
-        left[u as usize] = row_among(rows[u as usize], set, u);
-    }
-    left
+    array::from_fn(
+        |u| -> StageSet
+            ensures { (w : ℕ) → stages result w ≡ between (linked (words rows.entry.now)) (stages set) u w }
+        {
+            if set.has_index(u) {
+                row(rows, u).intersection(set)
+            } else {
+                StageSet::empty()
+            }
+        },
+    )
 }

@@ -8,10 +8,7 @@ use super::StageSet;
 fn mark(s: u8) -> u64
     ensures { (t : ℕ) → marked result t ≡ (t == s && nat_lt s 64) }
 {
-    if s < 64 {
-        return 1 << s;
-    }
-    0
+    1u64.checked_shl(u32::from(s)).unwrap_or(0)
 }
 
 impl StageSet {
@@ -39,11 +36,12 @@ impl StageSet {
         s < 64 && (self.word >> s) & 1 == 1
     }
 
-    /// Whether the stage with this index in a table is in the set; from 64 on there is none.
+    /// Whether the stage with this index in a table is in the set; from 64 on there is none. It stands beside `has`,
+    /// since one method for both types of number would leave the `3` of `has(3)` without a type.
     pub fn has_index(self, index: usize) -> bool
         ensures { result ≡ stages self index }
     {
-        index < 64 && self.has(index as u8)
+        u8::try_from(index).is_ok_and(|s| self.has(s))
     }
 
     /// The set with stage `s` in it too; a number from 64 on names no stage and adds none.
@@ -61,6 +59,15 @@ impl StageSet {
     {
         StageSet {
             word: self.word & !mark(s),
+        }
+    }
+
+    /// The stages in either set.
+    pub fn union(self, other: StageSet) -> StageSet
+        ensures { (s : ℕ) → stages result s ≡ (stages self s || stages other s) }
+    {
+        StageSet {
+            word: self.word | other.word,
         }
     }
 

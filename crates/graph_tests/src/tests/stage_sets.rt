@@ -25,6 +25,13 @@ fn stages_below_a_number(rt: HostRuntime) {
 }
 
 #[test]
+fn a_union_has_the_stages_of_either(rt: HostRuntime) {
+    let odd = StageSet::empty().with(1).with(3).with(9);
+    assert!(rt; StageSet::below(3).union(odd) == StageSet::below(4).with(9));
+    assert!(rt; odd.union(StageSet::empty()) == odd && odd.union(odd) == odd);
+}
+
+#[test]
 fn difference_and_intersection(rt: HostRuntime) {
     let odd = StageSet::empty().with(1).with(3).with(9);
     let few = StageSet::below(4);

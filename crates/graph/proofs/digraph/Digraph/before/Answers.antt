@@ -1,6 +1,6 @@
 use Rattle.std.proofs.Common.{sym, ap, ◌∙◌, inl, arith}
 use Rattle.graph.specs.Digraphs.{links}
-use Rattle.graph.specs.StageSets.{stages}
+use Rattle.graph.specs.StageSets.{stages, words}
 use Rattle.graph.proofs.Columns.{left_out, taken_all, taken_more}
 use Rattle.graph.proofs.Rows.{past_rows, rows_of}
 use Rattle.graph.proofs.digraph.Digraph.before.Goals as goal
@@ -22,4 +22,4 @@ pub returns : goal.returns
 returns c =
     let g = c.args.self.now in
     taken_all (λ t. links g t c.args.v) (stages c.loop-u.set) c.loop-u.u c.loop-u.invariant (omega arith)
-    (λ s h. past_rows g.rows (rows_of g) s c.args.v (inl h))
+    (λ s h. past_rows (words g.rows) (rows_of g) s c.args.v (inl h))

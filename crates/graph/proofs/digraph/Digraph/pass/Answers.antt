@@ -1,19 +1,14 @@
 use Rattle.std.proofs.Common.{sym, refl, ◌∙◌, arith, rules}
 use Rattle.std.proofs.lemmas.Bool.{and_left, and_right, not_from_true}
 use Rattle.std.proofs.lemmas.Bool.Decides.{nat_tests}
-use Rattle.graph.proofs.Marks.{mark_below}
 use Rattle.graph.proofs.digraph.Digraph.pass.Goals as goal
 use Rattle.graph.proofs.digraph.Digraph.pass.Goals.{then-not-has-via-then-not-has, then-not-has-via-else-not-has+then-is_linked}
-
-pub rows_past-requires : goal.rows_past-requires
-rows_past-requires c = mark_below c.args.self.now.stages.word c.args.v c.args.self.now.stages.fits (sym c.if-not-has.ensures)
 
 pub invariant_of-self : goal.invariant_of-self
 invariant_of-self c = record {
   long = search rules;
-  fit = c.rows_past.ensures.fit;
   inside = λ u w h.
-      let p = c.rows_past.ensures.links u w in
+      let p = c.rows_past.ensures u w in
       let x = c.without.ensures u in
       let y = c.without.ensures w in
       let i = c.args.self.now.inside u w in
@@ -33,4 +28,4 @@ returns-then-not-has c = record {
 }
 
 pub returns : goal.returns
-returns c = record { answer = let x = c.if-not-has.ensures in let y = c.is_linked.ensures in let z = c.if-is_linked.false in grind (arith, nat_tests); stages = c.without.ensures; links = c.rows_past.ensures.links }
+returns c = record { answer = let x = c.if-not-has.ensures in let y = c.is_linked.ensures in let z = c.if-is_linked.false in grind (arith, nat_tests); stages = c.without.ensures; links = c.rows_past.ensures }

@@ -1,8 +1,11 @@
-use Rattle.std.proofs.Common.{◌≡◌, ℕ}
+use Rattle.std.proofs.Common.{◌≡◌, ℕ, length}
 use Rattle.theory.specs.Reach.{reaches}
 use Rattle.graph.specs.Marks.{linked}
-use Rattle.graph.proofs.Rows.{Rows}
+use Rattle.graph.specs.StageSets.{words}
 use Rattle.graph.proofs.digraph.Digraph.reach.Given as goal
 
 abbrev pub invariant-loop-k : goal.invariant-loop-k
-invariant-loop-k l = ((a b : ℕ) → linked l.rows a b ≡ reaches l.k (linked l.self.rows) a b) × Rows l.rows
+invariant-loop-k l = record {
+  long : length l.rows ≡ 64;
+  so_far : (a b : ℕ) → linked (words l.rows) a b ≡ reaches l.k (linked (words l.self.rows)) a b;
+}

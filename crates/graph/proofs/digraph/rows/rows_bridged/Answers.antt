@@ -1,16 +1,9 @@
-use Rattle.std.proofs.Common.{inl, arith}
-use Rattle.graph.proofs.Rows.{made_none, made_more, made_all, past_rows}
+use Rattle.std.proofs.Common.{ℕ, ◌≤◌, inl, rules}
+use Rattle.graph.specs.StageSets.{words}
+use Rattle.graph.proofs.Rows.{made_rows, past_rows, rows_of_sets}
 use Rattle.graph.proofs.digraph.rows.rows_bridged.Goals as goal
 
-pub loop-u-init : goal.loop-u-init
-loop-u-init c = made_none _
-
-pub loop-u-preserved : goal.loop-u-preserved
-loop-u-preserved c = made_more _ _ c.loop-u.u c.row_bridged.result c.loop-u.invariant (omega arith) (omega arith) c.row_bridged.ensures
-
 pub returns : goal.returns
-returns c = record {
-  links = made_all _ c.loop-u.more c.loop-u.u c.loop-u.invariant (omega arith)
-      (λ x y h. rw (past_rows c.args.rows.now (record { long = c.told-rows; fit = c.fits-rows }) x y (inl h), past_rows c.args.rows.now (record { long = c.told-rows; fit = c.fits-rows }) x c.args.v (inl h)));
-  fit = c.loop-u.invariant.rows.fit;
-}
+returns c =
+    let none = λ (a b : ℕ) (h : 64 ≤ a). past_rows (words c.args.rows.now) (rows_of_sets c.args.rows.now c.told-rows) a b (inl h) in
+    made_rows _ _ c.from_fn.result c.from_fn.ensures.items _ (λ u y q k. (λ b. search rules, search rules)) (λ a b h. rw (none a b h, none a c.args.v h))

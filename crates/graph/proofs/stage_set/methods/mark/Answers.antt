@@ -1,10 +1,8 @@
-use Rattle.graph.proofs.Marks.{marked_none, mark_is}
 use Rattle.std.proofs.Common.{arith}
 use Rattle.std.proofs.lemmas.Bool.Decides.{nat_tests}
+use Rattle.std.proofs.lemmas.Grind.{common_steps}
+use Rattle.graph.proofs.Marks.{marked_none, mark_is}
 use Rattle.graph.proofs.stage_set.methods.mark.Goals as goal
 
-pub returns-then-s-lt64 : goal.returns-then-s-lt64
-returns-then-s-lt64 c = mark_is c.args.s (omega arith)
-
 pub returns : goal.returns
-returns c t = let m = marked_none t in grind (arith, nat_tests)
+returns c t = let n = marked_none t in let m = mark_is c.args.s in let x = c.checked_shl.ensures in grind (arith, nat_tests, common_steps)
