@@ -6,6 +6,7 @@ pub mod figures;
 pub mod filed_price;
 pub mod filings;
 pub mod frame;
+pub mod kind;
 pub mod reader;
 pub mod reading;
 pub mod record;
