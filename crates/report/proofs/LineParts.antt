@@ -15,9 +15,6 @@ three_parts a x y z = simp append_assoc
 pub hold_joined : (a name : List ℕ) (s : ℕ) → a ++ (codes "hold " ++ (decimal s ++ codes " ")) ++ name ++ codes "\n" ≡ a ++ hold_line s name
 hold_joined a name s = three_parts a (codes "hold " ++ (decimal s ++ codes " ")) name (codes "\n") ∙ ap (λ x. a ++ x) (simp append_assoc)
 
-pub price_joined : (a word figures : List ℕ) → a ++ (word ++ codes " ") ++ figures ++ codes "\n" ≡ a ++ (word ++ (codes " " ++ (figures ++ codes "\n")))
-price_joined a word figures = three_parts a (word ++ codes " ") figures (codes "\n") ∙ ap (λ x. a ++ x) (append_assoc word (codes " ") (figures ++ codes "\n"))
-
 -- one name more in the list of holds
 pub hold_lines_push : (held : Stages) (s : ℕ) (names : List (List ℕ)) (name : List ℕ)
     → hold_lines held s (names ++ name ∷ []) ≡ hold_lines held s names ++ cond (held (s + length names)) (hold_line (s + length names) name) []

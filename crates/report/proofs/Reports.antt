@@ -1,5 +1,5 @@
 -- The text of a sheet that was read.
-use Rattle.std.proofs.Common.{◌≡◌, ℕ, ◌-◌, Bool, true, false, leb, List, [], ◌∷◌, ◌++◌, map, length, take, drop, Ok, codes, sym, refl, ap, ◌∙◌, arith}
+use Rattle.std.proofs.Common.{◌≡◌, ℕ, Bool, true, false, leb, List, [], ◌∷◌, ◌++◌, map, length, take, drop, Ok, codes, sym, refl, ap, ◌∙◌, arith}
 use mathlib.Core.Path.{fun_ext}
 use Rattle.std.proofs.lemmas.List.{append_assoc, length-map, take_at}
 use Rattle.std.proofs.lemmas.Bool.{cond-true}
@@ -13,11 +13,13 @@ use Rattle.sheet_format.specs.Entries.{Entry, stage, link, live, fields_in, stag
 use Rattle.sheet_format.specs.Layout.{Contents}
 use Rattle.sheet_format.specs.Promise.{ReadsTheLayout}
 use Rattle.sheet_format.specs.Reading.{check, read_of, then}
+use Rattle.sheet.specs.declared.figures.Figures.{Figures}
+use Rattle.sheet.specs.FigureTexts.{figures_text}
 use Rattle.sheet.specs.Filings.{Filing}
 use Rattle.sheet.specs.Readings.{graph_after, left_after, prices_after, read_answer, room_for}
 use Rattle.sheet.proofs.RecordSteps.{ok_not_err, then_ok}
 use Rattle.report.specs.Lines.{hold_lines}
-use Rattle.report.specs.Texts.{all_held, outcome_text, plan_text, price_line, sheet_text}
+use Rattle.report.specs.Texts.{all_held, outcome_text, plan_text, sheet_text}
 
 -- each stage has a field
 fields_each : (es : List Entry) → length (fields_in es) ≡ stages_in es
@@ -34,26 +36,24 @@ passed_check false f e = ok_not_err tt f (sym e)
 pub same_held : (g : PlainGraph) (c : Contents) (held : Stages) → g ≡ c.graph → ((s : ℕ) → held s ≡ not_live g s) → held ≡ not_live c.graph
 same_held g c held e is = fun_ext is ∙ ap not_live e
 
+-- three lines, and those that follow
+lines_joined : (x y z : List ℕ)
+    → (codes "low " ++ (x ++ (codes "\nhigh " ++ (y ++ codes "\ncases 0\n")))) ++ z
+    ≡ codes "low " ++ ((x ++ codes "\n") ++ (codes "high " ++ ((y ++ codes "\n") ++ (codes "cases 0\n" ++ z))))
+lines_joined x y z = simp append_assoc
+
 module _ {P : Type 0} (K : Kind P) (F : Filing P) where
-  -- four parts pushed one after another
-  pub plan_joined : (c : Contents) (low high : P) (held : Stages) → low ≡ K.nothing → high ≡ all_held K F c → held ≡ not_live c.graph
-      → [] ++ price_line K F (codes "low") low ++ price_line K F (codes "high") high ++ codes "cases 0\n" ++ hold_lines held 0 c.names ≡ plan_text K F c
+  -- the printed prices before the lines of the holds
+  pub plan_joined : (c : Contents) (low high : Figures) (held : Stages) → low ≡ F.figures_of K.nothing → high ≡ F.figures_of (all_held K F c) → held ≡ not_live c.graph
+      → (codes "low " ++ (figures_text low ++ (codes "\nhigh " ++ (figures_text high ++ codes "\ncases 0\n")))) ++ hold_lines held 0 c.names ≡ plan_text K F c
   plan_joined c low high held a b h =
-      ap (λ x. [] ++ price_line K F (codes "low") x ++ price_line K F (codes "high") high ++ codes "cases 0\n" ++ hold_lines held 0 c.names) a
-      ∙ ap (λ x. price_line K F (codes "low") K.nothing ++ price_line K F (codes "high") x ++ codes "cases 0\n" ++ hold_lines held 0 c.names) b
-      ∙ ap (λ x. price_line K F (codes "low") K.nothing ++ price_line K F (codes "high") (all_held K F c) ++ codes "cases 0\n" ++ hold_lines x 0 c.names) h
-      ∙ three (price_line K F (codes "low") K.nothing) (price_line K F (codes "high") (all_held K F c)) (codes "cases 0\n") (hold_lines (not_live c.graph) 0 c.names)
-    where
-      three : (x y z u : List ℕ) → x ++ y ++ z ++ u ≡ x ++ (y ++ (z ++ u))
-      three x y z u = append_assoc (x ++ y) z u ∙ append_assoc x y (z ++ u)
+      rw (a, b, h) (lines_joined (figures_text (F.figures_of K.nothing)) (figures_text (F.figures_of (all_held K F c))) (hold_lines (not_live c.graph) 0 c.names))
 
   -- the cost of holding every stage that is not live, from the first prices
   pub same_high : (c : Contents) (prices : List P) (held : Stages) (n : ℕ) → n ≡ c.graph.n → take c.graph.n prices ≡ map F.price_of c.fields → held ≡ not_live c.graph
-      → cost K (price_at (take (n - 0) prices) K.nothing) (length (take (n - 0) prices)) held ≡ all_held K F c
+      → cost K (price_at (take n prices) K.nothing) (length (take n prices)) held ≡ all_held K F c
   same_high c prices held n e q h =
-      let z : n - 0 ≡ c.graph.n = omega arith in
-      ap (λ k. cost K (price_at (take k prices) K.nothing) (length (take k prices)) held) z
-      ∙ ap (λ ps. cost K (price_at ps K.nothing) (length ps) held) q
+      ap (λ ps. cost K (price_at ps K.nothing) (length ps) held) (ap (λ k. take k prices) e ∙ q)
       ∙ ap (λ x. cost K (price_at (map F.price_of c.fields) K.nothing) (length (map F.price_of c.fields)) x) h
 
   module _ (bytes : List ℕ) (was : List P) (answer : Ok tt ≡ read_answer F bytes (length was)) (words : ReadsTheLayout F.code F.width bytes) where

@@ -2,28 +2,11 @@
 use Rattle.std.specs.Prelude.{ℕ, ◌+◌, cond, List, [], ◌∷◌, ◌++◌, codes, decimal}
 use Rattle.theory.specs.Loops.{Stages}
 use Rattle.graph.specs.declared.fault.Fault.{Fault}
-use Rattle.graph.specs.declared.fault.Layer.{Layer}
-use Rattle.graph.specs.declared.fault.Layer.TheVariants.{Frame, Record, Graph, Call}
-use Rattle.graph.specs.Faults.{number}
-use Rattle.sheet.specs.declared.figures.Figures.{Figures}
-use Rattle.sheet.specs.declared.figures.Figures.TheVariants.{One, Two}
+use Rattle.graph.specs.FaultTexts.{fault_text}
 
--- A layer's name.
-abbrev pub layer_name : Layer → List ℕ
-layer_name Frame = codes "frame"
-layer_name Record = codes "record"
-layer_name Graph = codes "graph"
-layer_name Call = codes "call"
-
--- A refusal: its number, layer and place.
+-- A refusal, as a line.
 abbrev pub refusal_line : Fault → List ℕ
-refusal_line f =
-    codes "refused " ++ (decimal (number f.cause) ++ (codes " " ++ (layer_name f.layer ++ (codes " " ++ (decimal f.place ++ codes "\n")))))
-
--- A price's figures in decimal; two are parted by a space.
-abbrev pub figures_text : Figures → List ℕ
-figures_text (One a) = decimal a
-figures_text (Two a b) = decimal a ++ (codes " " ++ decimal b)
+refusal_line f = fault_text f ++ codes "\n"
 
 -- A held stage, by its number and name.
 abbrev pub hold_line : ℕ → List ℕ → List ℕ

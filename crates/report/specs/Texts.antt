@@ -1,5 +1,5 @@
 -- The text of a sheet.
-use Rattle.std.specs.Prelude.{◌≡◌, ℕ, ◌+◌, Bool, true, false, cond, List, [], ◌++◌, map, length, None, Ok, Err, codes, Option, Result, ◌==◌, slice_index}
+use Rattle.std.specs.Prelude.{◌≡◌, ℕ, ◌+◌, cond, List, [], ◌++◌, map, length, None, Ok, Err, codes, Option, Result}
 use Rattle.theory.specs.Loops.{Stages}
 use Rattle.theory.specs.Prices.{Kind, cost}
 use Rattle.graph.specs.declared.fault.Fault.{Fault}
@@ -10,12 +10,16 @@ use Rattle.price.specs.Memories.{memories}
 use Rattle.sheet_format.specs.Entries.{Entry, stage, link, live}
 use Rattle.sheet_format.specs.Layout.{Contents}
 use Rattle.sheet_format.specs.Reading.{read_of, then}
+use Rattle.sheet.specs.declared.kind.Kind.{Kind as SheetKind}
+use Rattle.sheet.specs.declared.kind.Kind.TheVariants.{Count, Memory}
 use Rattle.sheet.specs.declared.reader.Reader.{Reader}
 use Rattle.sheet.specs.declared.record.Record.{Record}
+use Rattle.sheet.specs.FigureTexts.{figures_text}
 use Rattle.sheet.specs.Filings.{Filing, count_filing, memory_filing}
+use Rattle.sheet.specs.Kinds.{kind_of}
 use Rattle.sheet.specs.Readings.{room_for}
 use Rattle.sheet.specs.Records.{Steps}
-use Rattle.report.specs.Lines.{figures_text, hold_line, hold_lines, refusal_line}
+use Rattle.report.specs.Lines.{hold_line, hold_lines, refusal_line}
 
 -- ---- what is printed
 
@@ -46,14 +50,14 @@ module _ {P : Type 0} (K : Kind P) (F : Filing P) where
   sheet_text bytes room =
       outcome_text (then (read_of F.code F.width bytes) (λ c. then (room_for c.graph.n room) (λ _. Ok c)))
 
--- The text by whether the sheet is of the kind Memory.
-abbrev pub text_by : Bool → List ℕ → List ℕ
-text_by true bytes = sheet_text memories memory_filing bytes 64
-text_by false bytes = sheet_text counts count_filing bytes 64
+-- The text of a sheet that is read as this kind.
+abbrev pub text_by : SheetKind → List ℕ → List ℕ
+text_by Memory bytes = sheet_text memories memory_filing bytes 64
+text_by Count bytes = sheet_text counts count_filing bytes 64
 
 -- What `holds` prints: the sheet is read as Memory if byte 3 is 1, and else as Count.
 abbrev pub holds_text : List ℕ → List ℕ
-holds_text bytes = text_by (slice_index bytes 3 == 1) bytes
+holds_text bytes = text_by (kind_of bytes) bytes
 
 -- ---- names, as they are listed
 

@@ -1,8 +1,7 @@
-use Rattle.std.proofs.Common.{◌++◌, codes, ap, ◌∙◌}
+use Rattle.std.proofs.Common.{◌++◌, ap, ◌∙◌}
 use Rattle.graph.specs.Graphs.{plain}
 use Rattle.graph.specs.StageSets.{stages}
 use Rattle.report.specs.Lines.{hold_lines}
-use Rattle.report.specs.Texts.{price_line}
 use Rattle.report.proofs.Reports.{plan_joined, same_held, same_high}
 use Rattle.report.proofs.report.plan.Goals as goal
 
@@ -10,13 +9,11 @@ pub returns : goal.returns
 returns g c d ok same_graph same_prices =
     let K = g.P.Price.kind in
     let F = g.P.FiledPrice.filing in
-    let held = same_held (plain c.args.graph.now) d (stages c.not_live-held.result) same_graph c.not_live-held.ensures in
-    let n = c.stage_count-n.ensures ∙ ap (λ x. x.n) same_graph in
+    let set = stages c.not_live-held.result in
+    let held = same_held (plain c.args.graph.now) d set same_graph c.not_live-held.ensures in
+    let n = c.from-n.ensures ∙ c.stage_count.ensures ∙ ap (λ x. x.n) same_graph in
+    let low = c.figures-low.ensures ∙ ap F.figures_of c.nothing.ensures in
+    let high = c.figures-high.ensures ∙ ap F.figures_of (c.cost.ensures ∙ same_high K F d c.args.prices.now set c.from-n.result n same_prices held) in
     c.in_ok-push_holds.ensures d ok
-    ∙ ap (λ x. x ++ hold_lines (stages c.not_live-held.result) 0 d.names)
-    (c.in_ok-extend_from_slice.ensures.items
-    ∙ ap (λ x. x ++ codes "cases 0\n") (c.in_ok-push_price-2.ensures
-    ∙ ap (λ x. x ++ price_line K F (codes "high") c.cost.result) (c.in_ok-push_price.ensures
-    ∙ ap (λ x. x ++ price_line K F (codes "low") c.nothing.result) c.new-text.ensures.items)))
-    ∙ plan_joined K F d c.nothing.result c.cost.result (stages c.not_live-held.result) c.nothing.ensures
-    (c.cost.ensures ∙ same_high K F d c.args.prices.now (stages c.not_live-held.result) c.stage_count-n.result n same_prices held) held
+    ∙ ap (λ x. x ++ hold_lines set 0 d.names) (ap (λ v. v.items) c.into_bytes-text.ensures.value ∙ c.in_ok-format.ensures.ok)
+    ∙ plan_joined K F d c.figures-low.result c.figures-high.result set low high held
