@@ -1,7 +1,11 @@
 //! The price kinds that a sheet can name.
 
-ghost use Rattle.std.specs.Prelude.{◌≡◌};
-ghost use Rattle.sheet.specs.Kinds.{kind_of};
+ghost use Rattle.std.specs.Prelude.{◌≡◌, Some, codes};
+ghost use Rattle.sheet.specs.Kinds.{Names, kind_of};
+
+use std::error::Error;
+use std::fmt;
+use std::str::FromStr;
 
 /// The price kind that a sheet is read as.
 #[derive(Clone, Copy, Debug, PartialEq, Eq, Hash)]
@@ -21,3 +25,32 @@ impl Kind {
         }
     }
 }
+
+/// A text that names no kind.
+#[derive(Clone, Copy, Debug, PartialEq, Eq, Hash)]
+pub struct UnknownKind;
+
+/// Reads a kind's name, in small letters.
+impl FromStr for Kind {
+    type Err = UnknownKind;
+
+    ghost from_str_gives = { Names };
+
+    fn from_str(name: &str) -> Result<Kind, UnknownKind> {
+        match name {
+            "count" => Ok(Kind::Count),
+            "memory" => Ok(Kind::Memory),
+            _ => Err(UnknownKind),
+        }
+    }
+}
+
+impl fmt::Display for UnknownKind {
+    ghost output = { λ _. Some (codes "no such kind") };
+
+    fn fmt<W: fmt::Write>(&self, f: &mut fmt::Formatter<W>) -> fmt::Result {
+        f.write_str("no such kind")
+    }
+}
+
+impl Error for UnknownKind {}
