@@ -1,14 +1,8 @@
 //! The lines of the table.
 
-use anyhow::anyhow;
+use anyhow::{Context, bail};
+use sheet::kind::Kind;
 use std::alloc::Global;
-
-/// The price kind that a sheet is read as.
-#[derive(Clone, Copy)]
-pub enum Kind {
-    Count,
-    Memory,
-}
 
 /// A line of the table: a sheet, the kind that it is read as and how many prices there is room for.
 #[derive(Drop)]
@@ -24,54 +18,35 @@ fn digit(b: u8) -> anyhow::Result<u8> {
     match b {
         b'0'..=b'9' => Ok(b - b'0'),
         b'A'..=b'F' => Ok(b - b'A' + 10),
-        _ => Err(anyhow!("no hexadecimal digit")),
+        _ => bail!("no hexadecimal digit"),
     }
 }
 
 /// Adds the bytes that pairs of hexadecimal digits stand for.
 fn add_bytes(sheet: &mut Vec<u8>, hex: &str) -> anyhow::Result<()> {
     for pair in hex.as_bytes().chunks(2) {
-        match pair {
-            [high, low] => sheet.push(digit(*high)? << 4 | digit(*low)?)?,
-            _ => return Err(anyhow!("an odd number of digits")),
-        }
+        let [high, low] = pair else {
+            bail!("an odd number of digits");
+        };
+        sheet.push(digit(*high)? << 4 | digit(*low)?)?;
     }
     Ok(())
 }
 
 /// Adds the bytes of a run, `COUNT:HEX`.
 fn add_run(sheet: &mut Vec<u8>, run: &str) -> anyhow::Result<()> {
-    let Some((count, hex)) = run.split_once(':') else {
-        return Err(anyhow!("a run with no colon"));
-    };
+    let (count, hex) = run.split_once(':').context("a run with no colon")?;
     for _ in 0..count.parse::<u16>()? {
         add_bytes(sheet, hex)?;
     }
     Ok(())
 }
 
-/// The kind of a name after `as=`.
-fn kind_named(name: &str) -> anyhow::Result<Kind> {
-    match name {
-        "count" => Ok(Kind::Count),
-        "memory" => Ok(Kind::Memory),
-        _ => Err(anyhow!("no such kind")),
-    }
-}
-
-/// The kind that a sheet's byte 3 names: Memory if it is 1, and else Count.
-fn kind_of(sheet: &[u8]) -> Kind {
-    match sheet {
-        [_, _, _, 1, ..] => Kind::Memory,
-        _ => Kind::Count,
-    }
-}
-
 impl<'a> Case<'a> {
     /// The case of a line: a label, then words that give the sheet, the kind and the room.
     pub(crate) fn parse(heap: Global, line: &'a str) -> anyhow::Result<Case<'a>> {
         let mut words = line.split_whitespace();
-        let label = words.next().unwrap_or("");
+        let label = words.next().unwrap_or_default();
         let mut named = None;
         let mut room = 64;
         let mut sheet = Vec::new(heap);
@@ -79,14 +54,14 @@ impl<'a> Case<'a> {
             if let Some(count) = word.strip_prefix("prices=") {
                 room = count.parse::<usize>()?;
             } else if let Some(name) = word.strip_prefix("as=") {
-                named = Some(kind_named(name)?);
+                named = Some(name.parse::<Kind>()?);
             } else if let Some(run) = word.strip_prefix('*') {
                 add_run(&mut sheet, run)?;
             } else {
                 add_bytes(&mut sheet, word)?;
             }
         }
-        let kind = named.unwrap_or(kind_of(sheet.as_slice()));
+        let kind = named.unwrap_or_else(|| Kind::of_sheet(&sheet));
         Ok(Case {
             label,
             kind,
