@@ -2,5 +2,6 @@
 pub mod Counts
 pub mod Memories
 pub mod Costs
+pub mod Bounds
 pub mod CountLaws
 pub mod MemoryLaws

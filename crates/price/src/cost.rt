@@ -30,11 +30,6 @@ mod tests {
     use crate::price::Price;
     use graph::stage_set::StageSet;
 
-    // The KiB and the holds of a price.
-    fn parts(price: Memory) -> (u64, u32) {
-        (price.kib, price.holds)
-    }
-
     #[test]
     fn counts_stop_at_the_largest(rt: HostRuntime) {
         let below = Count {
@@ -52,12 +47,18 @@ mod tests {
             holds: 2,
         };
         assert_eq!(rt;
-            parts(large.plus(Memory::of_stage(5))),
-            (18_446_744_073_709_551_615, 3)
+            large.plus(Memory::of_stage(5)),
+            Memory {
+                kib: 18_446_744_073_709_551_615,
+                holds: 3
+            }
         );
         assert_eq!(rt;
-            parts(large.plus(Memory::of_stage(6))),
-            (18_446_744_073_709_551_615, 4_294_967_295)
+            large.plus(Memory::of_stage(6)),
+            Memory {
+                kib: 18_446_744_073_709_551_615,
+                holds: 4_294_967_295
+            }
         );
     }
 
@@ -67,7 +68,13 @@ mod tests {
             kib: 10,
             holds: 4_294_967_295,
         };
-        assert_eq!(rt; parts(many.plus(Memory::of_stage(4))), (14, 4_294_967_295));
+        assert_eq!(rt;
+            many.plus(Memory::of_stage(4)),
+            Memory {
+                kib: 14,
+                holds: 4_294_967_295
+            }
+        );
     }
 
     #[test]
@@ -91,7 +98,10 @@ mod tests {
         ];
         let set = StageSet::empty().with(0).with(2).with(4);
         // 10 + 30 + 50 KiB, and a hold for each of three stages
-        assert_eq!(rt; parts(cost(&prices, set)), (90, 3));
-        assert_eq!(rt; parts(cost(&prices, StageSet::empty())), (0, 0));
+        assert_eq!(rt; cost(&prices, set), Memory { kib: 90, holds: 3 });
+        assert_eq!(rt;
+            cost(&prices, StageSet::empty()),
+            Memory { kib: 0, holds: 0 }
+        );
     }
 }

@@ -1,21 +1,13 @@
 //! Counts as a price kind.
 
+#![tactic(auto, using(crate::specs::CountLaws::count_same), unfolding(crate::specs::Counts::count))]
+
 ghost use Rattle.std.specs.Prelude.{◌≡◌, ◌+◌, ◌-◌, ◌^◌, ◌<◌, ◌≤◌};
-ghost use Rattle.price.specs.Counts.{count, counts};
+ghost use Rattle.price.specs.Counts.{counts};
 ghost use Rattle.price.specs.CountLaws.{count_laws};
 
 use crate::count::Count;
 use crate::price::Price;
-
-impl Count {
-    /// The count of so many holds, as the specification of counts has it.
-    fn new(holds: u32) -> Count
-        ensures value { result ≡ count holds }
-        ensures number { result.holds ≡ holds }
-    {
-        Count { holds }
-    }
-}
 
 impl Price for Count {
     ghost kind = { counts };
@@ -23,7 +15,7 @@ impl Price for Count {
     ghost lawful = { count_laws };
 
     fn nothing() -> Count {
-        Count::new(0)
+        Count { holds: 0 }
     }
 
     /// The sum, or the largest count if that is larger.
@@ -32,10 +24,12 @@ impl Price for Count {
         ensures within_width { self.holds + other.holds < 2 ^ 32 → result.holds ≡ self.holds + other.holds }
         ensures past_width { 2 ^ 32 ≤ self.holds + other.holds → result.holds ≡ 2 ^ 32 - 1 }
     {
-        Count::new(self.holds.saturating_add(other.holds))
+        Count {
+            holds: self.holds.saturating_add(other.holds),
+        }
     }
 
     fn not_dearer(self, other: Count) -> bool {
-        self.holds <= other.holds
+        self <= other
     }
 }

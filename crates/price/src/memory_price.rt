@@ -1,21 +1,13 @@
 //! Pairs of KiB and holds as a price kind.
 
+#![tactic(auto, using(crate::specs::MemoryLaws::memory_same), unfolding(crate::specs::Memories::memory))]
+
 ghost use Rattle.std.specs.Prelude.{◌≡◌, ◌+◌, ◌-◌, ◌^◌, ◌<◌, ◌≤◌};
-ghost use Rattle.price.specs.Memories.{memories, memory};
+ghost use Rattle.price.specs.Memories.{memories};
 ghost use Rattle.price.specs.MemoryLaws.{memory_laws};
 
 use crate::memory::Memory;
 use crate::price::Price;
-
-impl Memory {
-    /// The pair of so many KiB and holds, as the specification of memory has it.
-    fn new(kib: u64, holds: u32) -> Memory
-        ensures value { result ≡ memory kib holds }
-        ensures numbers { (result.kib ≡ kib) × (result.holds ≡ holds) }
-    {
-        Memory { kib, holds }
-    }
-}
 
 impl Price for Memory {
     ghost kind = { memories };
@@ -23,7 +15,7 @@ impl Price for Memory {
     ghost lawful = { memory_laws };
 
     fn nothing() -> Memory {
-        Memory::new(0, 0)
+        Memory { kib: 0, holds: 0 }
     }
 
     /// The sum part by part. If the KiB would pass their width it is the largest pair; otherwise the holds stop
@@ -35,12 +27,18 @@ impl Price for Memory {
         ensures kib_past_width { 2 ^ 64 ≤ self.kib + other.kib → (result.kib ≡ 2 ^ 64 - 1) × (result.holds ≡ 2 ^ 32 - 1) }
     {
         match self.kib.checked_add(other.kib) {
-            Some(kib) => Memory::new(kib, self.holds.saturating_add(other.holds)),
-            None => Memory::new(u64::MAX, u32::MAX),
+            Some(kib) => Memory {
+                kib,
+                holds: self.holds.saturating_add(other.holds),
+            },
+            None => Memory {
+                kib: u64::MAX,
+                holds: u32::MAX,
+            },
         }
     }
 
     fn not_dearer(self, other: Memory) -> bool {
-        self.kib < other.kib || self.kib == other.kib && self.holds <= other.holds
+        self <= other
     }
 }

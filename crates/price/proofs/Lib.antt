@@ -1,2 +1,0 @@
--- Costs stage by stage.
-pub mod Costs
