@@ -1,3 +1,2 @@
 pub mod LineParts
-pub mod Listing
 pub mod Reports

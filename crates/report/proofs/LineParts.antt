@@ -15,11 +15,3 @@ three_parts a x y z = simp append_assoc
 pub hold_joined : (a name : List ℕ) (s : ℕ) → a ++ (codes "hold " ++ (decimal s ++ codes " ")) ++ name ++ codes "\n" ≡ a ++ hold_line s name
 hold_joined a name s = three_parts a (codes "hold " ++ (decimal s ++ codes " ")) name (codes "\n") ∙ ap (λ x. a ++ x) (simp append_assoc)
 
--- one name more in the list of holds
-pub hold_lines_push : (held : Stages) (s : ℕ) (names : List (List ℕ)) (name : List ℕ)
-    → hold_lines held s (names ++ name ∷ []) ≡ hold_lines held s names ++ cond (held (s + length names)) (hold_line (s + length names) name) []
-hold_lines_push held s [] name = let e : s ≡ s + 0 = omega arith in append-nil _ ∙ ap (λ k. cond (held k) (hold_line k name) []) e
-hold_lines_push held s (x ∷ names) name =
-    let e : s + 1 + length names ≡ s + length (x ∷ names) = omega arith in
-    ap (λ ys. cond (held s) (hold_line s x) [] ++ ys) (hold_lines_push held (s + 1) names name ∙ ap (λ k. hold_lines held (s + 1) names ++ cond (held k) (hold_line k name) []) e)
-    ∙ sym (append_assoc (cond (held s) (hold_line s x) []) (hold_lines held (s + 1) names) _)

@@ -1,27 +1,20 @@
 -- The text of a sheet.
-use Rattle.std.specs.Prelude.{◌≡◌, ℕ, ◌+◌, cond, List, [], ◌++◌, map, length, None, Ok, Err, codes, Option, Result}
-use Rattle.theory.specs.Loops.{Stages}
+use Rattle.std.specs.Prelude.{ℕ, List, ◌++◌, map, length, Ok, Err, codes, Result}
 use Rattle.theory.specs.Prices.{Kind, cost}
 use Rattle.graph.specs.declared.fault.Fault.{Fault}
 use Rattle.graph.specs.Plans.{not_live}
 use Rattle.price.specs.Costs.{price_at}
 use Rattle.price.specs.Counts.{counts}
 use Rattle.price.specs.Memories.{memories}
-use Rattle.sheet_format.specs.Entries.{Entry, stage, link, live}
 use Rattle.sheet_format.specs.Layout.{Contents}
 use Rattle.sheet_format.specs.Reading.{read_of, then}
 use Rattle.sheet.specs.declared.kind.Kind.{Kind as SheetKind}
 use Rattle.sheet.specs.declared.kind.Kind.TheVariants.{Count, Memory}
-use Rattle.sheet.specs.declared.reader.Reader.{Reader}
-use Rattle.sheet.specs.declared.record.Record.{Record}
 use Rattle.sheet.specs.FigureTexts.{figures_text}
 use Rattle.sheet.specs.Filings.{Filing, count_filing, memory_filing}
 use Rattle.sheet.specs.Kinds.{kind_of}
 use Rattle.sheet.specs.Readings.{room_for}
-use Rattle.sheet.specs.Records.{Steps}
-use Rattle.report.specs.Lines.{hold_line, hold_lines, refusal_line}
-
--- ---- what is printed
+use Rattle.report.specs.Lines.{hold_lines, refusal_line}
 
 module _ {P : Type 0} (K : Kind P) (F : Filing P) where
   -- A price after a word, as a line.
@@ -58,26 +51,3 @@ text_by Count bytes = sheet_text counts count_filing bytes 64
 -- What `holds` prints: the sheet is read as Memory if byte 3 is 1, and else as Count.
 abbrev pub holds_text : List ℕ → List ℕ
 holds_text bytes = text_by (kind_of bytes) bytes
-
--- ---- names, as they are listed
-
--- The record that an answer of the reader holds, if any.
-abbrev pub record_in : Result (Option Record) Fault → Option Record
-record_in (Ok o) = o
-record_in (Err f) = None
-
--- A reader went on, by some answer of its own, to this record.
-abbrev pub Follows : Reader → Reader → Option Record → Type 0
-Follows r s o = (x : Result (Option Record) Fault) × Steps r s x × (o ≡ record_in x)
-
--- The line that a record adds, where s stages came before it.
-abbrev pub entry_lines : Stages → ℕ → Entry → List ℕ
-entry_lines held s (stage field name) = cond (held s) (hold_line s name) []
-entry_lines held s (link u v) = []
-entry_lines held s (live t) = []
-
--- How many stages have come after a record, where s came before it.
-abbrev pub stages_after : ℕ → Entry → ℕ
-stages_after s (stage field name) = s + 1
-stages_after s (link u v) = s
-stages_after s (live t) = s

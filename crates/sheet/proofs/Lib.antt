@@ -4,6 +4,7 @@ pub mod Records
 pub mod TakingIn
 pub mod RecordSteps
 pub mod ReadLoop
-pub mod PriceSteps
 pub mod ReadPost
 pub mod Names
+pub mod StageSteps
+pub mod Prices

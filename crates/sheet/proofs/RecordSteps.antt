@@ -1,6 +1,6 @@
 -- Records read and taken in one after another make what the specification of reading says.
-use Rattle.std.proofs.Common.{◌≡◌, ℕ, zero, suc, ◌+◌, ◌<◌, ◌≤◌, List, [], ◌∷◌, ◌++◌, length, get_or, drop, Some, None, Ok, Err, Option, Result, sym, refl, ap, ◌∙◌, ⊎_elim, arith}
-use Rattle.std.proofs.lemmas.List.{at_drop_all, at_drop_more, drop-drop, length_push}
+use Rattle.std.proofs.Common.{◌≡◌, ℕ, ◌+◌, ◌<◌, ◌≤◌, List, [], ◌∷◌, ◌++◌, length, get_or, drop, Some, None, Ok, Err, Option, Result, sym, refl, ap, ◌∙◌, ⊎_elim, arith}
+use Rattle.std.proofs.lemmas.List.{at_drop_all, at_drop_more, drop-drop}
 use Rattle.std.proofs.lemmas.Bool.{cases_lt}
 use Rattle.graph.specs.declared.fault.Cause.{Cause}
 use Rattle.graph.specs.declared.fault.Fault.{Fault}
@@ -27,11 +27,11 @@ pub then_ok : {A B : Type 0} (r : Result A Fault) (f : A → Result B Fault) (y 
 then_ok (Ok x) f y e = (x, refl, e)
 then_ok (Err h) f y e = ok_not_err y h (sym e)
 
-found_none : (r : Result Entry Fault) → then r (λ e. Ok (Some e)) ≡ Ok None → ⊥
+pub found_none : (r : Result Entry Fault) → then r (λ e. Ok (Some e)) ≡ Ok None → ⊥
 found_none (Ok x) e = no_way (cc)
 found_none (Err h) e = no_way (cc)
 
-found_fault : (r : Result Entry Fault) (f : Fault) → then r (λ e. Ok (Some e)) ≡ Err f → r ≡ Err f
+pub found_fault : (r : Result Entry Fault) (f : Fault) → then r (λ e. Ok (Some e)) ≡ Err f → r ≡ Err f
 found_fault (Ok x) f e = no_way (cc)
 found_fault (Err h) f e = cc
 
@@ -99,21 +99,3 @@ pub taken_names : (c d : Contents) (e : Entry) (place : ℕ) → taken_in c e pl
 taken_names c d (stage field name) place q = ap (λ x. x.names) (made_is (stage_refusal c.graph) place _ d q)
 taken_names c d (link u v) place q = ap (λ x. x.names) (made_is (link_refusal c.graph u v) place _ d q)
 taken_names c d (live s) place q = ap (λ x. x.names) (made_is (live_refusal c.graph s) place _ d q)
-
-fields_more : (c : Contents) (e : Entry) → length c.fields ≤ length (fields_with c e)
-fields_more c (stage field name) = omega (arith, length_push c.fields field)
-fields_more c (link u v) = omega arith
-fields_more c (live s) = omega arith
-
--- fields are never fewer further on
-pub fields_grow : (w p left : ℕ) (bs : List ℕ) (c d : Contents) → records_from w p left bs c ≡ Ok d → length c.fields ≤ length d.fields
-unfolding records_from
-fields_grow w p left [] c d e = let q = ap (λ x. length x.fields) (same_ok c d e) in omega arith
-fields_grow w p (suc left) (b ∷ bs) c d e = fields_grow w (p + 1) left bs c d e
-fields_grow w p zero (len ∷ more) c d e =
-    let x = then_ok (record_of w p len more) _ d e in
-    let y = then_ok (taken_in c x.0 (p + 1)) _ d x.2 in
-    let rest = fields_grow w (p + 1) len more y.0 d y.2 in
-    let now_more = fields_more c x.0 in
-    let taken = ap length (taken_fields c y.0 x.0 (p + 1) y.1) in
-    omega arith

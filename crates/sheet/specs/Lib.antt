@@ -4,3 +4,4 @@ pub mod FigureTexts
 pub mod Kinds
 pub mod Records
 pub mod Readings
+pub mod Stages

@@ -1,11 +1,10 @@
 -- What reading a sheet into a graph and a table of prices answers and leaves.
-use Rattle.std.specs.Prelude.{◌≡◌, ℕ, ◌+◌, ◌<◌, ◌≤◌, cond, List, ◌++◌, map, length, drop, Ok, Err, Result, nat_le, nat_lt, slice_set}
+use Rattle.std.specs.Prelude.{◌≡◌, ℕ, ◌<◌, ◌≤◌, cond, List, ◌++◌, map, length, drop, Ok, Err, Result, nat_le}
 use Rattle.graph.specs.declared.fault.Cause.TheVariants.{TablesTooSmall}
 use Rattle.graph.specs.declared.fault.Fault.{Fault}
 use Rattle.graph.specs.declared.fault.Layer.TheVariants.{Call}
 use Rattle.graph.specs.declared.graph.Graph.{Graph}
 use Rattle.graph.specs.Graphs.{PlainGraph, plain}
-use Rattle.sheet_format.specs.Entries.{Entry, stage, link, live}
 use Rattle.sheet_format.specs.Faulty.{Refused, at}
 use Rattle.sheet_format.specs.Layout.{Contents, LaidOut}
 use Rattle.sheet_format.specs.Promise.{ReadsTheLayout}
@@ -64,17 +63,3 @@ Made (Ok c) (Ok g) = Pictures g c
 Made (Ok c) (Err f) = ⊥
 Made (Err f) (Ok g) = ⊥
 Made (Err f) (Err h) = h ≡ f
-
--- ---- prices, while they are written
-
--- The prices with that of a stage's field written at n.
-abbrev pub filed : {P : Type 0} → Filing P → Entry → List P → ℕ → List P
-filed F (stage field name) prices n = slice_set prices n (F.price_of field)
-filed F (link u v) prices n = prices
-filed F (live s) prices n = prices
-
--- Where the next price goes, in a table with room for so many.
-abbrev pub next_filed : Entry → ℕ → ℕ → ℕ
-next_filed (stage field name) room n = cond (nat_lt n room) (n + 1) n
-next_filed (link u v) room n = n
-next_filed (live s) room n = n

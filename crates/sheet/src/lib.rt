@@ -10,3 +10,4 @@ pub mod kind;
 pub mod reader;
 pub mod reading;
 pub mod record;
+pub mod stages;

@@ -4,12 +4,13 @@ ghost use Rattle.std.specs.Prelude.{◌≡◌, ◌≤◌, ◌++◌, map, length,
 ghost use Rattle.graph.specs.Graphs.{plain};
 ghost use Rattle.sheet_format.specs.Layout.{Contents};
 ghost use Rattle.sheet_format.specs.Reading.{read_of, taken_in};
-ghost use Rattle.sheet.specs.Readings.{Made, Pictures, ReadsInWords, Took, filed, graph_after, next_filed, prices_after, read_answer};
+ghost use Rattle.sheet.specs.Readings.{Made, Pictures, ReadsInWords, Took, graph_after, prices_after, read_answer};
 ghost use Rattle.sheet.specs.Records.{entry_told};
 
 use crate::filed_price::FiledPrice;
 use crate::reader::Reader;
 use crate::record::{Entry, Record};
+use crate::stages::Stages;
 use graph::fault::{Cause, Fault, Layer, Site};
 use graph::graph::Graph;
 
@@ -37,32 +38,16 @@ fn graph_of<P: FiledPrice>(sheet: &[u8]) -> Result<Graph, Fault>
     Ok(graph)
 }
 
-/// Writes the price of a stage at `n`, where there is room, and answers where the next one goes.
-fn file_price<P: FiledPrice>(entry: Entry, prices: &mut [P], n: usize) -> usize
-    ensures next { result ≡ next_filed (entry_told entry.entry) (length prices.old) n }
-    ensures prices { prices.new ≡ filed P.filing (entry_told entry.entry) prices.old n }
-{
-    match entry {
-        Entry::Stage(field, _) => {
-            if n >= prices.len() {
-                return n;
-            }
-            prices[n] = P::of_field(field);
-            n + 1
-        }
-        Entry::Link(_, _) => n,
-        Entry::Live(_) => n,
-    }
-}
-
 /// Sets the first prices from the price fields of a sheet that reads, where there is room for each.
 fn set_prices<P: FiledPrice>(sheet: &[u8], prices: &mut [P]) -> Result<(), Fault>
     ensures { (c : Contents) → read_of P.filing.code P.filing.width sheet.now ≡ Ok c → length c.fields ≤ length prices.old → (result ≡ Ok tt) × (prices.new ≡ map P.filing.price_of c.fields ++ drop (length c.fields) prices.old) }
 {
-    let mut reader = Reader::open::<P>(sheet)?;
-    let mut n = 0;
-    while let Some(record) = reader.next()? {
-        n = file_price(record.entry, prices, n);
+    let mut stages = Stages::open::<P>(sheet)?;
+    for price in prices.iter_mut() {
+        let Some(stage) = stages.next() else {
+            break;
+        };
+        *price = P::of_field(stage.field);
     }
     Ok(())
 }

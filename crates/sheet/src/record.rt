@@ -7,6 +7,13 @@ pub struct Name<'a> {
     pub place: usize,
 }
 
+/// A stage: the price field and the name that its record gives it.
+#[derive(Clone, Copy)]
+pub struct Stage<'a> {
+    pub field: &'a [u8],
+    pub name: Name<'a>,
+}
+
 /// What a record says: a stage with its price field and name, a link from one stage to another, or a live mark.
 #[derive(Clone, Copy)]
 pub enum Entry<'a> {

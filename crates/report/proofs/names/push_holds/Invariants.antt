@@ -1,14 +1,10 @@
-use Rattle.std.proofs.Common.{◌-◌, ◌≤◌, length, vec_items}
+use Rattle.std.proofs.Common.{◌≡◌, ◌++◌, vec_items}
 use Rattle.graph.specs.StageSets.{stages}
-use Rattle.sheet.proofs.ReadLoop.{Over}
-use Rattle.report.proofs.Listing.{Listed}
+use Rattle.sheet.specs.Stages.{names_of, stages_left}
+use Rattle.report.specs.Lines.{hold_lines}
 use Rattle.report.proofs.names.push_holds.Given as goal
 
-abbrev pub invariant-loop-record : goal.invariant-loop-record
-invariant-loop-record g l =
-    let w = g.P.FiledPrice.filing.width in
-    Over l.sheet w l.reader × (l.s ≤ l.reader.at)
-    × Listed w (stages l.held) l.sheet (vec_items l.initial.text) l.reader.at l.s (vec_items l.text)
-
-abbrev pub decreases-loop-record : goal.decreases-loop-record
-decreases-loop-record g l = length l.sheet - l.reader.at
+abbrev pub invariant-loop-s : goal.invariant-loop-s
+invariant-loop-s g l =
+    vec_items l.text ++ hold_lines (stages l.held) l.s-iterator.count (names_of (stages_left l.s-iterator.iter))
+    ≡ vec_items l.initial.text ++ hold_lines (stages l.held) 0 (names_of (stages_left l.initial.s-iterator.iter))

@@ -1,12 +1,10 @@
-use Rattle.std.proofs.Common.{◌-◌, length}
-use Rattle.sheet.proofs.ReadLoop.{Over}
-use Rattle.sheet.proofs.PriceSteps.{Written}
+use Rattle.std.proofs.Common.{◌≡◌, ◌++◌, take, drop}
+use Rattle.sheet.specs.Stages.{fields_of, stages_left}
+use Rattle.sheet.proofs.Prices.{written}
 use Rattle.sheet.proofs.reading.set_prices.Given as goal
 
-abbrev pub invariant-loop-record : goal.invariant-loop-record
-invariant-loop-record g l =
+abbrev pub invariant-loop-price : goal.invariant-loop-price
+invariant-loop-price g l =
     let F = g.P.FiledPrice.filing in
-    Over l.sheet F.width l.reader × Written F l.sheet l.initial.prices l.reader.at l.n l.prices
-
-abbrev pub decreases-loop-record : goal.decreases-loop-record
-decreases-loop-record g l = length l.sheet - l.reader.at
+    take l.price-index l.prices ++ written F (fields_of (stages_left l.stages)) (drop l.price-index l.prices)
+    ≡ written F (fields_of (stages_left l.initial.stages)) l.initial.prices
