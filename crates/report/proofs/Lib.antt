@@ -1,2 +1,1 @@
-pub mod LineParts
 pub mod Reports

@@ -2,6 +2,5 @@
 
 #![tactic(auto)]
 
-mod lines;
 mod names;
 pub mod report;

@@ -6,17 +6,16 @@ ghost use Rattle.sheet_format.specs.Layout.{Contents};
 ghost use Rattle.sheet_format.specs.Reading.{read_of};
 ghost use Rattle.report.specs.Lines.{hold_line, hold_lines};
 
-use crate::lines::hold_start;
 use graph::stage_set::StageSet;
 use sheet::filed_price::FiledPrice;
 use sheet::stages::Stages;
-use std::alloc::{AllocError, Global};
+use std::alloc::AllocError;
 
 /// Adds the line of a held stage.
-fn push_hold(heap: Global, text: &mut Vec<u8>, s: usize, name: &[u8]) -> Result<(), AllocError>
+fn push_hold(text: &mut Vec<u8>, s: usize, name: &[u8]) -> Result<(), AllocError>
     ensures { OnOk result (text.new.items ≡ text.old.items ++ hold_line s name.now) }
 {
-    let start = hold_start(heap, s)?;
+    let start = format!(in *text.allocator(); "hold {s} ")?;
     text.extend_from_slice(start.as_bytes())?;
     text.extend_from_slice(name)?;
     text.extend_from_slice(b"\n")?;
@@ -25,7 +24,6 @@ fn push_hold(heap: Global, text: &mut Vec<u8>, s: usize, name: &[u8]) -> Result<
 
 /// Adds a line for each stage of a sheet that is in the set, rising, with its name.
 pub(crate) fn push_holds<P: FiledPrice>(
-    heap: Global,
     text: &mut Vec<u8>,
     sheet: &[u8],
     held: StageSet,
@@ -37,7 +35,7 @@ pub(crate) fn push_holds<P: FiledPrice>(
     };
     for (s, stage) in stages.enumerate() {
         if held.has_index(s) {
-            push_hold(heap, text, s, stage.name.bytes)?;
+            push_hold(text, s, stage.name.bytes)?;
         }
     }
     Ok(())

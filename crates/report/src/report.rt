@@ -31,7 +31,7 @@ fn plan<P: FiledPrice>(
     let low = P::nothing().figures();
     let high = cost(&prices[..n], held).figures();
     let mut text = format!(in heap; "low {low}\nhigh {high}\ncases 0\n")?.into_bytes();
-    push_holds::<P>(heap, &mut text, sheet, held)?;
+    push_holds::<P>(&mut text, sheet, held)?;
     Ok(text)
 }
 
