@@ -1,4 +1,3 @@
-pub mod Fields
 pub mod Bodies
 pub mod Records
 pub mod TakingIn

@@ -21,6 +21,7 @@ impl FiledPrice for Count {
         0
     }
 
+    #[tactic(auto, using(price::specs::CountLaws::count_same), unfolding(price::specs::Counts::count))]
     fn of_field(field: &[u8]) -> Count {
         Count::of_stage()
     }
@@ -43,11 +44,10 @@ impl FiledPrice for Memory {
         4
     }
 
+    /// A field of four bytes is the stage's KiB, big-endian; any other stands for 0.
+    #[tactic(auto, using(price::specs::MemoryLaws::memory_same), unfolding(price::specs::Memories::memory))]
     fn of_field(field: &[u8]) -> Memory {
-        match field {
-            [a, b, c, d] => Memory::of_stage(u32::from_be_bytes([*a, *b, *c, *d])),
-            _ => Memory::of_stage(0),
-        }
+        Memory::of_stage(<[u8; 4]>::try_from(field).map_or(0, u32::from_be_bytes))
     }
 
     fn figures(self) -> Figures {

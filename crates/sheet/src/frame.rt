@@ -5,6 +5,12 @@ ghost use Rattle.sheet_format.specs.Reading.{frame_of, is_sized};
 
 use graph::fault::{Cause, Fault, Layer};
 
+/// The version that byte 0 gives.
+const VERSION: u8 = 1;
+
+/// The least bytes that a sheet may have: its version, its count and its price kind.
+const LEAST_BYTES: usize = 4;
+
 /// The most bytes that a sheet may have.
 const MOST_BYTES: usize = 20_000;
 
@@ -12,18 +18,18 @@ const MOST_BYTES: usize = 20_000;
 fn is_sized(sheet: &[u8]) -> bool
     ensures { result ≡ is_sized sheet.now }
 {
-    if sheet.len() < 4 || sheet.len() > MOST_BYTES {
+    let [_, high, low, counted @ ..] = sheet else {
         return false;
-    }
-    let count = usize::from(sheet[1]) * 256 + usize::from(sheet[2]);
-    count + 3 == sheet.len()
+    };
+    (LEAST_BYTES..=MOST_BYTES).contains(&sheet.len())
+        && usize::from(u16::from_be_bytes([*high, *low])) == counted.len()
 }
 
 /// Checks the frame of a sheet, for the price kind with this code.
 pub fn check_frame(sheet: &[u8], code: u8) -> Result<(), Fault>
     ensures { result ≡ frame_of code sheet.now }
 {
-    if sheet.len() == 0 || sheet[0] != 1 {
+    if !matches!(sheet, [VERSION, ..]) {
         return Err(Fault {
             cause: Cause::Version,
             layer: Layer::Frame,
@@ -37,12 +43,12 @@ pub fn check_frame(sheet: &[u8], code: u8) -> Result<(), Fault>
             place: 1,
         });
     }
-    if sheet.len() < 4 || sheet[3] != code {
-        return Err(Fault {
+    match sheet {
+        [_, _, _, kind, ..] if *kind == code => Ok(()),
+        _ => Err(Fault {
             cause: Cause::Kind,
             layer: Layer::Frame,
             place: 3,
-        });
+        }),
     }
-    Ok(())
 }

@@ -8,23 +8,30 @@ ghost use Rattle.sheet.specs.Records.{EntryPlaced, entry_answer};
 use crate::record::{Entry, Name};
 use graph::fault::{Cause, Fault, Layer};
 
+/// The tag byte of a stage record.
+const STAGE: u8 = 1;
+
+/// The tag byte of a link record.
+const LINK: u8 = 2;
+
+/// The tag byte of a live mark.
+const LIVE: u8 = 3;
+
+/// The most bytes that a name may have.
+const LONGEST_NAME: usize = 32;
+
 /// Whether a name may have this byte: hexadecimal 21 to 7E.
 fn is_name_byte(b: u8) -> bool
     ensures { result ≡ (nat_le 0x21 b && nat_le b 0x7E) }
 {
-    (0x21 <= b) & (b <= 0x7E)
+    matches!(b, 0x21..=0x7E)
 }
 
 /// Whether a name may have each of these bytes.
 fn is_printable(name: &[u8]) -> bool
     ensures { result ≡ printable name.now }
 {
-    for b in name {
-        if !is_name_byte(*b) {
-            return false;
-        }
-    }
-    true
+    name.iter().all(|b| is_name_byte(*b))
 }
 
 /// The stage in the body of a stage record, whose tag byte stands at `place`.
@@ -38,16 +45,12 @@ fn stage_of<'a>(rest: &'a [u8], width: usize, place: usize) -> Result<Entry<'a>,
         layer: Layer::Record,
         place,
     };
-    let size = rest.len();
-    if size <= width || size - width > 32 {
-        return Err(fault);
-    }
-    let bytes = &rest[width..];
-    if !is_printable(bytes) {
+    let (field, bytes) = rest.split_at_checked(width).ok_or(fault)?;
+    if bytes.is_empty() || bytes.len() > LONGEST_NAME || !is_printable(bytes) {
         return Err(fault);
     }
     Ok(Entry::Stage(
-        &rest[0..width],
+        field,
         Name {
             bytes,
             place: place + 1 + width,
@@ -62,9 +65,9 @@ pub(crate) fn entry_in<'a>(body: &'a [u8], width: usize, place: usize) -> Result
     ensures name { IfOk result (λ e. EntryPlaced e (place + 1 + width)) }
 {
     match body {
-        [1, rest @ ..] => stage_of(rest, width, place),
-        [2, from, to] => Ok(Entry::Link(*from, *to)),
-        [3, stage] => Ok(Entry::Live(*stage)),
+        [STAGE, rest @ ..] => stage_of(rest, width, place),
+        [LINK, from, to] => Ok(Entry::Link(*from, *to)),
+        [LIVE, stage] => Ok(Entry::Live(*stage)),
         _ => Err(Fault {
             cause: Cause::RecordBody,
             layer: Layer::Record,
