@@ -19,7 +19,14 @@ module _ {P : Type 0} (F : Filing P) where
     table_filled [] e room same done = none_to_write e
     table_filled (f ∷ fields) e room same done =
         absurd
-        (omega
-        (arith, ap length e, length-append (take i prices) (written (f ∷ fields) (drop i prices)), length-take i prices,
-        length-append (map F.price_of (f ∷ fields)) (drop (length (f ∷ fields)) (drop i prices)), length-map (f ∷ fields) F.price_of,
-        length-append (map F.price_of all) (drop (length all) old), length-map all F.price_of, length-drop (length all) old))
+        (omega (
+          arith,
+          ap length e,
+          length-append (take i prices) (written (f ∷ fields) (drop i prices)),
+          length-take i prices,
+          length-append (map F.price_of (f ∷ fields)) (drop (length (f ∷ fields)) (drop i prices)),
+          length-map (f ∷ fields) F.price_of,
+          length-append (map F.price_of all) (drop (length all) old),
+          length-map all F.price_of,
+          length-drop (length all) old,
+        ))

@@ -29,9 +29,9 @@ with_entry width place p c t d e others is grew = go e (taken_fields c t e p is)
   where
     go : (e : Entry) → t.fields ≡ fields_with c e → t.names ≡ names_with c e → Grew c (with_record width place (Ok e) others) d
     go (stage field name) f n = (
-        sym (append_assoc c.fields (field ∷ []) (fields_of others)) ∙ ap (λ xs. xs ++ fields_of others) (sym f) ∙ grew.0,
-        sym (append_assoc c.names (name ∷ []) (names_of others)) ∙ ap (λ xs. xs ++ names_of others) (sym n) ∙ grew.1,
-      )
+      sym (append_assoc c.fields (field ∷ []) (fields_of others)) ∙ ap (λ xs. xs ++ fields_of others) (sym f) ∙ grew.0,
+      sym (append_assoc c.names (name ∷ []) (names_of others)) ∙ ap (λ xs. xs ++ names_of others) (sym n) ∙ grew.1,
+    )
     go (link u v) f n = (ap (λ xs. xs ++ fields_of others) (sym f) ∙ grew.0, ap (λ xs. xs ++ names_of others) (sym n) ∙ grew.1)
     go (live s) f n = (ap (λ xs. xs ++ fields_of others) (sym f) ∙ grew.0, ap (λ xs. xs ++ names_of others) (sym n) ∙ grew.1)
 

@@ -20,7 +20,7 @@ fn take_in(graph: &mut Graph, found: Record) -> Result<(), Fault>
 {
     let site = Site::Record(found.place);
     match found.entry {
-        Entry::Stage(_, _) => graph.add_stage(site),
+        Entry::Stage(..) => graph.add_stage(site),
         Entry::Link(from, to) => graph.link(from, to, site),
         Entry::Live(stage) => graph.mark_live(stage, site),
     }

@@ -22,7 +22,7 @@ impl<'a> Stages<'a> {
     pub fn open<P: FiledPrice>(sheet: &'a [u8]) -> Result<Stages<'a>, Fault>
         ensures stages { stages_answer result ≡ stages_of P.filing.code P.filing.width sheet.now }
         ensures in_words { (c : Contents) → read_of P.filing.code P.filing.width sheet.now ≡ Ok c → StagesOf c result }
-        // So they can be counted.
+        // No more stages come than the sheet has bytes, so a count of them fits a usize.
         ensures few { IfOk result (λ s. length (stages_left s) ≤ length sheet.now) }
     {
         let reader = Reader::open::<P>(sheet)?;
