@@ -30,25 +30,13 @@ pub fn check_frame(sheet: &[u8], code: u8) -> Result<(), Fault>
     ensures { result ≡ frame_of code sheet.now }
 {
     if !matches!(sheet, [VERSION, ..]) {
-        return Err(Fault {
-            cause: Cause::Version,
-            layer: Layer::Frame,
-            place: 0,
-        });
+        return Err(Fault::new(Cause::Version, Layer::Frame, 0));
     }
     if !is_sized(sheet) {
-        return Err(Fault {
-            cause: Cause::Size,
-            layer: Layer::Frame,
-            place: 1,
-        });
+        return Err(Fault::new(Cause::Size, Layer::Frame, 1));
     }
     match sheet {
         [_, _, _, kind, ..] if *kind == code => Ok(()),
-        _ => Err(Fault {
-            cause: Cause::Kind,
-            layer: Layer::Frame,
-            place: 3,
-        }),
+        _ => Err(Fault::new(Cause::Kind, Layer::Frame, 3)),
     }
 }

@@ -44,11 +44,7 @@ impl<'a> Reader<'a> {
         }
         let len = sheet[at] as usize;
         if len == 0 || len > sheet.len() - at - 1 {
-            return Err(Fault {
-                cause: Cause::RecordLength,
-                layer: Layer::Record,
-                place: at,
-            });
+            return Err(Fault::new(Cause::RecordLength, Layer::Record, at));
         }
         let place = at + 1;
         let entry = entry_in(&sheet[place..place + len], self.width, place)?;

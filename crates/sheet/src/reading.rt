@@ -61,11 +61,7 @@ pub fn read<P: FiledPrice>(sheet: &[u8], graph: &mut Graph, prices: &mut [P]) ->
 {
     let made = graph_of::<P>(sheet)?;
     if prices.len() < made.stage_count() as usize {
-        return Err(Fault {
-            cause: Cause::TablesTooSmall,
-            layer: Layer::Call,
-            place: 0,
-        });
+        return Err(Fault::new(Cause::TablesTooSmall, Layer::Call, 0));
     }
     set_prices(sheet, prices)?;
     *graph = made;

@@ -40,11 +40,7 @@ fn stage_of<'a>(rest: &'a [u8], width: usize, place: usize) -> Result<Entry<'a>,
     ensures entry { entry_answer result ≡ formed_or (stage_of (is_stage width rest.now) width rest.now) place }
     ensures name { IfOk result (λ e. EntryPlaced e (place + 1 + width)) }
 {
-    let fault = Fault {
-        cause: Cause::RecordBody,
-        layer: Layer::Record,
-        place,
-    };
+    let fault = Fault::new(Cause::RecordBody, Layer::Record, place);
     let (field, bytes) = rest.split_at_checked(width).ok_or(fault)?;
     if bytes.is_empty() || bytes.len() > LONGEST_NAME || !is_printable(bytes) {
         return Err(fault);
@@ -68,10 +64,6 @@ pub(crate) fn entry_in<'a>(body: &'a [u8], width: usize, place: usize) -> Result
         [STAGE, rest @ ..] => stage_of(rest, width, place),
         [LINK, from, to] => Ok(Entry::Link(*from, *to)),
         [LIVE, stage] => Ok(Entry::Live(*stage)),
-        _ => Err(Fault {
-            cause: Cause::RecordBody,
-            layer: Layer::Record,
-            place,
-        }),
+        _ => Err(Fault::new(Cause::RecordBody, Layer::Record, place)),
     }
 }

@@ -16,7 +16,7 @@ returns-then-prices-stage_count g c =
     let F = g.P.FiledPrice.filing in
     let m = made_was_ok _ c.in_ok-made.made c.in_ok-made.ensures in
     let n = c.stage_count.ensures ∙ ap (λ x. x.n) m.2.graph in
-    crowded_post F c.args.sheet.now _ _ c.args.prices.now _ _ m.0 m.1 (omega (arith, n, c.if-prices-stage_count.true)) refl refl refl
+    crowded_post F c.args.sheet.now _ _ c.args.prices.now _ _ m.0 m.1 (omega (arith, n, c.if-prices-stage_count.true)) (ap Err c.new.ensures) refl refl
 
 pub returns-in_err-set_prices : goal.returns-in_err-set_prices
 returns-in_err-set_prices g c =

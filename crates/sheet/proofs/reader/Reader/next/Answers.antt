@@ -13,7 +13,8 @@ returns-then-at-sheet c =
 pub returns-then-len-eq0 : goal.returns-then-len-eq0
 returns-then-len-eq0 c =
     let self = c.args.self.now in
-    record {
+    rw c.new.ensures
+    (record {
       answers = next_short self.width self.at self.sheet.now c.if-at-sheet.false
           (elim c.then-len-eq0.branch [
             | then-len-eq0-via-then-len-eq0 w ↦ inl w.if-len-eq0.true
@@ -24,7 +25,7 @@ returns-then-len-eq0 c =
       goes_on = refl;
       same_sheet = refl;
       same_width = refl;
-    }
+    })
 
 pub returns-in_err-entry : goal.returns-in_err-entry
 returns-in_err-entry c =
