@@ -33,6 +33,6 @@ name_part w p sheet field name e =
     ∙ ap (take (length name)) (drop-drop (length (1 ∷ field)) (p + 1) sheet ∙ ap (λ k. drop k sheet) place)
 
 pub name_in : (w p : ℕ) (sheet : List ℕ) (e : Told) → next_of w p (drop p sheet) ≡ Ok (Some (entry_told e)) → EntryPlaced e (p + 2 + w) → NameIn sheet e
-name_in w p sheet (Stage field name) e k = name_part w p sheet field.now name.bytes.now e ∙ ap (λ x. take (length name.bytes.now) (drop x sheet)) (sym k)
+name_in w p sheet (Stage s) e k = name_part w p sheet s.field.now s.name.bytes.now e ∙ ap (λ x. take (length s.name.bytes.now) (drop x sheet)) (sym k)
 name_in w p sheet (Link u v) e k = tt
 name_in w p sheet (Live s) e k = tt

@@ -1,5 +1,5 @@
 -- The stages that a sheet yields are those that its records say.
-use Rattle.std.proofs.Common.{◌≡◌, ℕ, zero, suc, ◌+◌, ◌<◌, ◌≤◌, List, [], ◌∷◌, ◌++◌, length, get_or, drop, Some, None, Ok, Err, Option, Result, Bor, subst, sym, refl, ap, ◌∙◌, ⊎_elim, arith}
+use Rattle.std.proofs.Common.{◌≡◌, ℕ, zero, suc, ◌+◌, ◌<◌, ◌≤◌, List, [], ◌∷◌, ◌++◌, length, get_or, drop, Some, None, Ok, Err, Option, Result, subst, sym, refl, ap, ◌∙◌, ⊎_elim, arith}
 use Rattle.std.proofs.lemmas.List.{append_assoc, append-nil, at_drop_all, at_drop_more, drop-drop, length-drop}
 use Rattle.std.proofs.lemmas.Bool.{cases_lt}
 use Rattle.std.specs.Option.{option_flatten}
@@ -9,8 +9,8 @@ use Rattle.sheet_format.specs.Entries.{Entry, stage, link, live}
 use Rattle.sheet_format.specs.Layout.{Contents}
 use Rattle.sheet_format.specs.Reading.{frame_of, no_contents, read_of, record_of, records_from, taken_in}
 use Rattle.sheet.specs.declared.reader.Reader.{Reader}
-use Rattle.sheet.specs.declared.record.Name.{Name}
 use Rattle.sheet.specs.declared.record.Record.{Record}
+use Rattle.sheet.specs.declared.record.Stage.{Stage as ToldStage}
 use Rattle.sheet.specs.declared.record.Entry.{Entry as Told}
 use Rattle.sheet.specs.declared.record.Entry.TheVariants.{Stage, Link, Live}
 use Rattle.sheet.specs.Records.{EntryPlaced, Opened, Placed, Steps, entry_told, next_of, place_after, record_answer}
@@ -132,19 +132,18 @@ module _ (r s : Reader) (x : Result (Option Record) Fault) (step : Steps r s x) 
         ∙ ap (λ bs. stages_from s.width s.at 0 (drop s.at bs)) (sym step.same_sheet))
 
     -- a stage's record is passed, and so the stage comes first
-    pub stage_first : (field : Bor (List ℕ)) (name : Name) → found.entry ≡ Stage field name
-        → stages_ahead r ≡ plain_stage (record { field = field; name = name }) ∷ stages_ahead s
-    stage_first field name e =
-        let place : name.place ≡ r.at + 2 + r.width = subst (λ t. EntryPlaced t (r.at + 2 + r.width)) e (subst (Placed r.width r.at) is step.places).1 in
-        ahead_on ∙ ap (λ t. with_record r.width r.at (Ok (entry_told t)) (stages_ahead s)) e
-        ∙ ap (λ p. record { field = field.now; name = name.bytes.now; place = p } ∷ stages_ahead s) (sym place)
+    pub stage_first : (t : ToldStage) → found.entry ≡ Stage t → stages_ahead r ≡ plain_stage t ∷ stages_ahead s
+    stage_first t e =
+        let place : t.name.place ≡ r.at + 2 + r.width = subst (λ k. EntryPlaced k (r.at + 2 + r.width)) e (subst (Placed r.width r.at) is step.places).1 in
+        ahead_on ∙ ap (λ k. with_record r.width r.at (Ok (entry_told k)) (stages_ahead s)) e
+        ∙ ap (λ p. record { field = t.field.now; name = t.name.bytes.now; place = p } ∷ stages_ahead s) (sym place)
 
     -- another record is passed, and the stages stay
-    pub no_stage_passed : ((field : Bor (List ℕ)) (name : Name) → found.entry ≡ Stage field name → ⊥) → stages_ahead s ≡ stages_ahead r
+    pub no_stage_passed : ((t : ToldStage) → found.entry ≡ Stage t → ⊥) → stages_ahead s ≡ stages_ahead r
     no_stage_passed none = go found.entry refl
       where
         go : (t : Told) → found.entry ≡ t → stages_ahead s ≡ stages_ahead r
-        go (Stage field name) e = absurd (none field name e)
+        go (Stage t) e = absurd (none t e)
         go (Link u v) e = sym (ahead_on ∙ ap (λ t. with_record r.width r.at (Ok (entry_told t)) (stages_ahead s)) e)
         go (Live u) e = sym (ahead_on ∙ ap (λ t. with_record r.width r.at (Ok (entry_told t)) (stages_ahead s)) e)
 

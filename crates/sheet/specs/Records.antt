@@ -10,7 +10,7 @@ use Rattle.sheet.specs.declared.record.Record.{Record}
 
 -- The entry that the code's value stands for.
 abbrev pub entry_told : Told → Entry
-entry_told (Stage field name) = stage field.now name.bytes.now
+entry_told (Stage s) = stage s.field.now s.name.bytes.now
 entry_told (Link u v) = link u v
 entry_told (Live s) = live s
 
@@ -38,7 +38,7 @@ place_after (Err f) sheet at = at
 
 -- A stage's name begins at this place.
 abbrev pub EntryPlaced : Told → ℕ → Type 0
-EntryPlaced (Stage field name) place = name.place ≡ place
+EntryPlaced (Stage s) place = s.name.place ≡ place
 EntryPlaced (Link u v) place = Unit {0}
 EntryPlaced (Live s) place = Unit {0}
 
@@ -56,7 +56,7 @@ Placed width at (Err f) = Unit {0}
 
 -- A stage's name is the part of the sheet that begins at the name's place.
 abbrev pub NameIn : List ℕ → Told → Type 0
-NameIn sheet (Stage field name) = name.bytes.now ≡ take (length name.bytes.now) (drop name.place sheet)
+NameIn sheet (Stage s) = s.name.bytes.now ≡ take (length s.name.bytes.now) (drop s.name.place sheet)
 NameIn sheet (Link u v) = Unit {0}
 NameIn sheet (Live s) = Unit {0}
 

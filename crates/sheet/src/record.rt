@@ -14,10 +14,10 @@ pub struct Stage<'a> {
     pub name: Name<'a>,
 }
 
-/// What a record says: a stage with its price field and name, a link from one stage to another, or a live mark.
+/// What a record says: a stage, a link from one stage to another, or a live mark.
 #[derive(Clone, Copy)]
 pub enum Entry<'a> {
-    Stage(&'a [u8], Name<'a>),
+    Stage(Stage<'a>),
     Link(u8, u8),
     Live(u8),
 }

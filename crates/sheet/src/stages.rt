@@ -39,8 +39,8 @@ impl<'a> Iterator for Stages<'a> {
 
     fn next(&mut self) -> Option<Stage<'a>> {
         while let Some(record) = self.reader.next().ok().flatten() {
-            if let Entry::Stage(field, name) = record.entry {
-                return Some(Stage { field, name });
+            if let Entry::Stage(stage) = record.entry {
+                return Some(stage);
             }
         }
         None

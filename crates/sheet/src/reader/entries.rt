@@ -5,7 +5,7 @@ ghost use Rattle.sheet_format.specs.Entries.{printable};
 ghost use Rattle.sheet_format.specs.Reading.{entry_of, formed_or, stage_of, is_stage};
 ghost use Rattle.sheet.specs.Records.{EntryPlaced, entry_answer};
 
-use crate::record::{Entry, Name};
+use crate::record::{Entry, Name, Stage};
 use graph::fault::{Cause, Fault, Layer};
 
 /// The tag byte of a stage record.
@@ -45,13 +45,11 @@ fn stage_of<'a>(rest: &'a [u8], width: usize, place: usize) -> Result<Entry<'a>,
     if bytes.is_empty() || bytes.len() > LONGEST_NAME || !is_printable(bytes) {
         return Err(fault);
     }
-    Ok(Entry::Stage(
-        field,
-        Name {
-            bytes,
-            place: place + 1 + width,
-        },
-    ))
+    let name = Name {
+        bytes,
+        place: place + 1 + width,
+    };
+    Ok(Entry::Stage(Stage { field, name }))
 }
 
 /// What a record's tag byte and body say, where the tag byte stands at `place`.

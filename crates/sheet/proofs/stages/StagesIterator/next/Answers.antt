@@ -7,7 +7,7 @@ pub returns-in-Stage-clause-steps : goal.returns-in-Stage-clause-steps
 returns-in-Stage-clause-steps c =
     sym c.loop-record.invariant
     ∙ stage_first c.loop-record.self.reader c.next.new.self c.next.result c.next.ensures c.in-Some.record
-    (sym (c.flatten.ensures ∙ ap option_flatten c.ok.ensures.value) ∙ c.in-Some.is) c.in-Stage.field c.in-Stage.name c.in-Stage.is
+    (sym (c.flatten.ensures ∙ ap option_flatten c.ok.ensures.value) ∙ c.in-Some.is) c.in-Stage.stage c.in-Stage.is
 
 pub returns-in-Stage-clause-goes : goal.returns-in-Stage-clause-goes
 returns-in-Stage-clause-goes c =
