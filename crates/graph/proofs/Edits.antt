@@ -18,7 +18,7 @@ use Rattle.graph.specs.declared.digraph.Digraph.{Digraph}
 use Rattle.graph.specs.declared.graph.Graph.{Graph}
 use Rattle.graph.specs.declared.stage_set.StageSet.{StageSet}
 use Rattle.graph.specs.Edits.{Adds, Changed, Frees, LinksUp, MarksLive, TakesOff, Unlinks}
-use Rattle.graph.specs.Faults.{after, answer, cause_of, number, unless}
+use Rattle.graph.specs.Faults.{after, answer, cause_of, unless}
 use Rattle.graph.specs.Graphs.{PlainGraph, Sound, bare, free_refusal, freed, link_refusal, linked_too, links_of, live_links, live_looped, live_of, live_refusal, live_too, plain, unlink_refusal, unlinked}
 use Rattle.graph.specs.Marks.{linked, marked}
 use Rattle.graph.specs.StageSets.{words}
