@@ -1,6 +1,6 @@
 -- The marks of a word under the operations on words: its bits.
 use Rattle.std.proofs.Common.{◌≡◌, ℕ, ◌-◌, ◌*◌, ◌/◌, ◌%◌, ◌^◌, ◌<◌, ◌≤◌, true, false, not, ◌&&◌, ◌||◌, eqb, ltb, ◌≢◌, ◌⊎◌, cond, sym, ap, ◌∙◌, inl, inr, ⊎_elim, arith}
-use lib.Bits.{and_lt, bit_and, bit_or}
+use lib.Bits.{and_lt, or_lt, bit_and, bit_or}
 use Rattle.std.specs.Int.{bit_at, w64}
 use Rattle.std.proofs.lemmas.Bool.{cases_Bool, cases_eq, cases_lt, both_ways, lt-ltb}
 use Rattle.std.proofs.lemmas.Bool.Decides.{nat_tests}
@@ -68,6 +68,14 @@ marked_below n s =
     (λ (l : n ≤ s). let b = bit_at_ones_above n s l in grind (arith, nat_tests))
     (cases_lt s n)
 
+-- `(1 << n) - 1`
+pub below_is : (n s : ℕ) → n < 64 → marked ((1 * 2 ^ n) % 2 ^ 64 - 1) s ≡ (ltb s n && ltb s 64)
+below_is n s h = rw (one_shl n 64 h, marked_below n s) (grind (arith, nat_tests))
+
+-- `MAX`
+pub all_is : (n s : ℕ) → 64 ≤ n → marked (2 ^ 64 - 1) s ≡ (ltb s n && ltb s 64)
+all_is n s h = rw (marked_below 64 s) (grind (arith, nat_tests))
+
 -- two words with the same marks are equal
 pub same_words : (a b : ℕ) → a < 2 ^ 64 → b < 2 ^ 64 → ((s : ℕ) → marked a s ≡ marked b s) → a ≡ b
 same_words a b ha hb f = same_from_bits_below 64 a b ha hb (λ s h. rw (bit_is a s, bit_is b s, f s))
@@ -86,3 +94,10 @@ pub marks_within : (a b : ℕ) → b < 2 ^ 64 → bit_and a ((2 ^ 64 - 1) - b) �
 marks_within a b hb z s h t =
     let e : (marked a s && not (marked b s)) ≡ false = ap (λ x. marked a s && x) (sym (marked_flip b s hb h)) ∙ sym (marked_and a ((2 ^ 64 - 1) - b) s) ∙ ap (λ x. marked x s) z ∙ marked_none s in
     grind (arith, nat_tests)
+
+-- the marks of two words fit a word
+pub or_fits : (a b : ℕ) → a < 2 ^ 64 → b < 2 ^ 64 → bit_or a b < 2 ^ 64
+or_fits a b ha hb = or_lt 64 a b ha hb
+
+-- what the operations on words do to their marks
+pub ruleset marks = (marked_and, marked_or, marked_minus, marked_past, marked_none, marked_test, below_is, all_is, mark_is, or_fits)

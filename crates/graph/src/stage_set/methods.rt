@@ -1,3 +1,7 @@
+//! What a set of stages answers and makes.
+
+#![tactic(auto, using(crate::proofs::Marks::marks))]
+
 ghost use Rattle.std.specs.Prelude.{◌≡◌, ℕ, false, not, ◌&&◌, ◌||◌, ◌==◌, nat_lt};
 ghost use Rattle.graph.specs.Marks.{marked};
 ghost use Rattle.graph.specs.StageSets.{stages};
