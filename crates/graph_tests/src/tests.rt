@@ -12,9 +12,9 @@ mod stage_sets;
 // Where the edits of these tests are asked for.
 const SITE: Site = Site::Record(40);
 
-// The graph of `n` stages with no links and no live marks, or `n` where there is none.
-fn bare(n: u8) -> Result<Graph, u8> {
-    Graph::new(n).ok_or(n)
+// The graph of `n` stages with no links and no live marks.
+fn bare(n: u8) -> Result<Graph, Cause> {
+    Graph::new(n).ok_or(Cause::TooManyStages)
 }
 
 // The refusal for this cause at that site.
@@ -26,8 +26,7 @@ fn refused(cause: Cause) -> Result<(), Fault> {
 fn ring(n: u8) -> Digraph {
     let mut digraph = Digraph::new(StageSet::below(n));
     for s in 0..n {
-        let next = if s + 1 == n { 0 } else { s + 1 };
-        digraph.link(s, next);
+        digraph.link(s, (s + 1) % n);
     }
     digraph
 }

@@ -1,5 +1,5 @@
 -- Records read and taken in one after another make what the specification of reading says.
-use Rattle.std.proofs.Common.{◌≡◌, ℕ, ◌+◌, ◌<◌, ◌≤◌, List, [], ◌∷◌, ◌++◌, length, get_or, drop, Some, None, Ok, Err, Option, Result, sym, refl, ap, ◌∙◌, ⊎_elim, arith}
+use Rattle.std.proofs.Common.{◌≡◌, ℕ, ◌+◌, ◌<◌, ◌≤◌, List, [], ◌∷◌, ◌++◌, length, get_or, drop, Some, None, Ok, Err, Option, Result, sym, refl, ap, ◌∙◌, ⊎_elim}
 use Rattle.std.proofs.lemmas.List.{at_drop_all, at_drop_more, drop-drop}
 use Rattle.std.proofs.lemmas.Bool.{cases_lt}
 use Rattle.graph.specs.declared.fault.Cause.{Cause}
@@ -13,11 +13,8 @@ use Rattle.sheet.specs.Records.{next_of}
 use Rattle.sheet.proofs.Records.{next_end, next_here}
 
 -- ---- results told apart
-no_way : {A : Type 0} → ◌≡◌ {A = ℕ} 0 1 → A
-no_way e = absurd (omega arith)
-
 pub ok_not_err : {A B : Type 0} (x : A) (f : Fault) → ◌≡◌ {A = Result A Fault} (Ok x) (Err f) → B
-ok_not_err x f e = no_way (cc)
+ok_not_err x f e = cc
 
 pub same_ok : {A : Type 0} (x y : A) → ◌≡◌ {A = Result A Fault} (Ok x) (Ok y) → x ≡ y
 same_ok x y e = cc
@@ -28,19 +25,19 @@ then_ok (Ok x) f y e = (x, refl, e)
 then_ok (Err h) f y e = ok_not_err y h (sym e)
 
 pub found_none : (r : Result Entry Fault) → then r (λ e. Ok (Some e)) ≡ Ok None → ⊥
-found_none (Ok x) e = no_way (cc)
-found_none (Err h) e = no_way (cc)
+found_none (Ok x) e = cc
+found_none (Err h) e = cc
 
 pub found_fault : (r : Result Entry Fault) (f : Fault) → then r (λ e. Ok (Some e)) ≡ Err f → r ≡ Err f
-found_fault (Ok x) f e = no_way (cc)
+found_fault (Ok x) f e = cc
 found_fault (Err h) f e = cc
 
 pub found_some : (r : Result Entry Fault) (x : Entry) → then r (λ e. Ok (Some e)) ≡ Ok (Some x) → r ≡ Ok x
 found_some (Ok y) x e = cc
-found_some (Err h) x e = no_way (cc)
+found_some (Err h) x e = cc
 
 some_not_none : (x : Entry) → ◌≡◌ {A = Result (Option Entry) Fault} (Ok None) (Ok (Some x)) → ⊥
-some_not_none x e = no_way (cc)
+some_not_none x e = cc
 
 -- ---- the next record, and what reading makes of it
 module _ (w p : ℕ) (sheet : List ℕ) (c : Contents) where

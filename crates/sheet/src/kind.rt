@@ -3,6 +3,8 @@
 ghost use Rattle.std.specs.Prelude.{◌≡◌, Some, codes};
 ghost use Rattle.sheet.specs.Kinds.{Names, kind_of};
 
+use crate::filed_price::FiledPrice;
+use price::memory::Memory;
 use std::error::Error;
 use std::fmt;
 use std::str::FromStr;
@@ -20,7 +22,7 @@ impl Kind {
         ensures { result ≡ kind_of sheet.now }
     {
         match sheet {
-            [_, _, _, 1, ..] => Kind::Memory,
+            [_, _, _, code, ..] if *code == Memory::code() => Kind::Memory,
             _ => Kind::Count,
         }
     }

@@ -1,3 +1,5 @@
+//! What a digraph answers, the moves that change it, and the digraphs made of its links.
+
 ghost use Rattle.std.specs.Prelude.{◌≡◌, ℕ, ◌<◌, false, not, ◌&&◌, ◌||◌, if◌then◌else◌, Decides, ◌==◌, nat_lt};
 ghost use Rattle.theory.specs.Loops.{Link, Loop, between};
 ghost use Rattle.theory.specs.Mates.{mates, unpaired};

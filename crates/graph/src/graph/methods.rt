@@ -1,3 +1,5 @@
+//! Making a graph, and what it answers.
+
 ghost use Rattle.std.specs.Prelude.{◌≡◌, ℕ};
 ghost use Rattle.std.specs.Option.{option_map};
 ghost use Rattle.graph.specs.Graphs.{bare, plain, sized};
