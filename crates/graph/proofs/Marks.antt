@@ -95,7 +95,7 @@ marks_within a b hb z s h t =
     let e : (marked a s && not (marked b s)) ≡ false = ap (λ x. marked a s && x) (sym (marked_flip b s hb h)) ∙ sym (marked_and a ((2 ^ 64 - 1) - b) s) ∙ ap (λ x. marked x s) z ∙ marked_none s in
     grind (arith, nat_tests)
 
--- the marks of two words fit a word
+-- `a | b` fits a word
 pub or_fits : (a b : ℕ) → a < 2 ^ 64 → b < 2 ^ 64 → bit_or a b < 2 ^ 64
 or_fits a b ha hb = or_lt 64 a b ha hb
 

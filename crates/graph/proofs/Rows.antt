@@ -1,4 +1,4 @@
--- Rows of marks that are made one after another, and what they link.
+-- Rows of marks: what they link, with one row changed, and where a closure makes them.
 use Rattle.std.proofs.Common.{◌≡◌, ℕ, zero, suc, [], ◌∷◌, ◌+◌, ◌-◌, ◌^◌, ◌<◌, ◌≤◌, Bool, false, cond, eqb, ◌≢◌, ◌⊎◌, List, length, get_or, set, replicate, sym, ap, subst, ◌∙◌, inl, inr, ⊎_elim, arith}
 use lib.Bits.{bit_and, bit_or, and_lt, or_lt}
 use Rattle.std.proofs.lemmas.Nat.{pow_below}

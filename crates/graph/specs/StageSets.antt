@@ -8,6 +8,6 @@ use Rattle.graph.specs.declared.stage_set.StageSet.{StageSet}
 abbrev pub stages : StageSet → Stages
 stages set = marked set.word
 
--- The words of sets.
+-- The words of sets, by which rows of sets are read as rows of marks.
 abbrev pub words : List StageSet → List ℕ
 words sets = map (λ (set : StageSet). set.word) sets

@@ -12,7 +12,7 @@ mod stage_sets;
 // Where the edits of these tests are asked for.
 const SITE: Site = Site::Record(40);
 
-// The graph of `n` stages with no links and no live marks.
+// The graph of `n` stages with no links and no live marks, or the cause where there are too many.
 fn bare(n: u8) -> Result<Graph, Cause> {
     Graph::new(n).ok_or(Cause::TooManyStages)
 }

@@ -3,11 +3,12 @@
 #![tactic(auto)]
 
 use report::report::report;
+use sheet::frame::MOST_BYTES;
 use std::io;
 use std::io::{Read, Write};
 
 /// The most bytes that are read: one more than a sheet may have, so that a longer one is seen to be too long.
-const MOST_READ: u64 = 20_001;
+const MOST_READ: u64 = MOST_BYTES as u64 + 1;
 
 fn main(rt: HostRuntime) -> io::Result<()> {
     let mut sheet = Vec::new(rt.alloc());

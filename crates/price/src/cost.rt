@@ -14,6 +14,7 @@ pub fn cost<P: Price>(prices: &[P], set: StageSet) -> P
     ensures { result ≡ cost P.kind (price_at prices.now P.kind.nothing) (length prices.now) (stages set) }
 {
     let mut sum = P::nothing();
+    // A plain loop: a `filter` and a `fold` are no shorter, and harder to prove.
     for (s, price) in prices.iter().enumerate() {
         if set.has_index(s) {
             sum = sum.plus(*price);

@@ -2,7 +2,8 @@
 
 ghost use Rattle.std.specs.Prelude.{◌≡◌, ◌^◌, ◌<◌};
 
-/// An amount of memory in KiB, 64 bits wide, and a number of held stages, 32 bits wide.
+/// An amount of memory in KiB, 64 bits wide, and a number of held stages, 32 bits wide. Prices compare by the fields in
+/// this order: KiB, then holds.
 #[derive(Clone, Copy, Debug, PartialEq, Eq, PartialOrd, Ord, Hash)]
 pub struct Memory {
     pub kib: u64,

@@ -3,7 +3,7 @@
 ghost use Rattle.std.specs.Prelude.{◌≡◌, ◌++◌, Ok, OnOk};
 ghost use Rattle.graph.specs.StageSets.{stages};
 ghost use Rattle.sheet_format.specs.Layout.{Contents};
-ghost use Rattle.sheet_format.specs.Reading.{read_of};
+ghost use Rattle.sheet.specs.Readings.{Reads};
 ghost use Rattle.report.specs.Lines.{hold_line, hold_lines};
 
 use graph::stage_set::StageSet;
@@ -28,7 +28,7 @@ pub(crate) fn push_holds<P: FiledPrice>(
     sheet: &[u8],
     held: StageSet,
 ) -> Result<(), AllocError>
-    ensures { OnOk result ((c : Contents) → read_of P.filing.code P.filing.width sheet.now ≡ Ok c → text.new.items ≡ text.old.items ++ hold_lines (stages held) 0 c.names) }
+    ensures { OnOk result ((c : Contents) → Reads P.filing sheet.now c → text.new.items ≡ text.old.items ++ hold_lines (stages held) 0 c.names) }
 {
     let Ok(stages) = Stages::open::<P>(sheet) else {
         return Ok(());

@@ -3,7 +3,7 @@
 ghost use Rattle.std.specs.Prelude.{◌≡◌, ◌≤◌, map, length, take, IfOk, Ok};
 ghost use Rattle.graph.specs.Graphs.{plain};
 ghost use Rattle.sheet_format.specs.Layout.{Contents};
-ghost use Rattle.sheet_format.specs.Reading.{read_of};
+ghost use Rattle.sheet.specs.Readings.{Reads};
 ghost use Rattle.report.specs.Texts.{holds_text, plan_text, sheet_text};
 
 use crate::names::push_holds;
@@ -24,10 +24,10 @@ fn plan<P: FiledPrice>(
     prices: &[P],
 ) -> Result<Vec<u8>, AllocError>
     requires { graph.now.n ≤ length prices.now }
-    ensures { IfOk result (λ t. (c : Contents) → read_of P.filing.code P.filing.width sheet.now ≡ Ok c → plain graph.now ≡ c.graph → take c.graph.n prices.now ≡ map P.filing.price_of c.fields → t.items ≡ plan_text P.Price.kind P.filing c) }
+    ensures { IfOk result (λ t. (c : Contents) → Reads P.filing sheet.now c → plain graph.now ≡ c.graph → take c.graph.n prices.now ≡ map P.filing.price_of c.fields → t.items ≡ plan_text P.Price.kind P.filing c) }
 {
     let held = graph.not_live();
-    let n = usize::from(graph.stage_count());
+    let n = graph.stage_count() as usize;
     let low = P::nothing().figures();
     let high = cost(&prices[..n], held).figures();
     let mut text = format!(in heap; "low {low}\nhigh {high}\ncases 0\n")?.into_bytes();

@@ -11,6 +11,10 @@ use Rattle.sheet_format.specs.Promise.{ReadsTheLayout}
 use Rattle.sheet_format.specs.Reading.{check, read_of, then}
 use Rattle.sheet.specs.Filings.{Filing}
 
+-- A sheet reads as these contents.
+abbrev pub Reads : {P : Type 0} → Filing P → List ℕ → Contents → Type 0
+Reads F bytes c = read_of F.code F.width bytes ≡ Ok c
+
 -- A table has room for the price of each stage.
 abbrev pub room_for : ℕ → ℕ → Result (Unit {0}) Fault
 room_for n room = check (nat_le n room) (at TablesTooSmall Call 0)

@@ -10,7 +10,7 @@ use price::price::Price;
 pub trait FiledPrice: Price {
     ghost filing: { Filing Self };
 
-    /// The code by which a sheet names the kind.
+    /// The code by which a sheet names the kind: a number and no enum, since a studio files kinds of its own.
     fn code() -> u8
         ensures { result ≡ filing.code };
 

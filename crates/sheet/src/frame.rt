@@ -8,11 +8,11 @@ use graph::fault::{Cause, Fault, Layer};
 /// The version that byte 0 gives.
 const VERSION: u8 = 1;
 
-/// The least bytes that a sheet may have: its version, its count and its price kind.
-const LEAST_BYTES: usize = 4;
+/// The bytes of a frame, the least that a sheet may have: version, count and price kind. Records follow.
+pub const FRAME_BYTES: usize = 4;
 
 /// The most bytes that a sheet may have.
-const MOST_BYTES: usize = 20_000;
+pub const MOST_BYTES: usize = 20_000;
 
 /// Whether a sheet has from 4 to 20,000 bytes, of which bytes 1 and 2 count those after byte 2.
 fn is_sized(sheet: &[u8]) -> bool
@@ -21,7 +21,7 @@ fn is_sized(sheet: &[u8]) -> bool
     let [_, high, low, counted @ ..] = sheet else {
         return false;
     };
-    (LEAST_BYTES..=MOST_BYTES).contains(&sheet.len())
+    (FRAME_BYTES..=MOST_BYTES).contains(&sheet.len())
         && usize::from(u16::from_be_bytes([*high, *low])) == counted.len()
 }
 

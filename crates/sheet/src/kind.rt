@@ -1,4 +1,4 @@
-//! The price kinds that a sheet can name.
+//! The price kinds that this repository has, and how a sheet or a text names them.
 
 ghost use Rattle.std.specs.Prelude.{◌≡◌, Some, codes};
 ghost use Rattle.sheet.specs.Kinds.{Names, kind_of};

@@ -5,14 +5,14 @@ ghost use Rattle.sheet.specs.Records.{Opened, Steps};
 
 use self::entries::entry_in;
 use crate::filed_price::FiledPrice;
-use crate::frame::check_frame;
+use crate::frame::{FRAME_BYTES, check_frame};
 use crate::record::Record;
 use graph::fault::{Cause, Fault, Layer};
 
 mod entries;
 
-/// A reader that borrows a sheet and yields its records one after another. The next one begins at `at`, and
-/// `width` is the width of a price field.
+/// A reader that borrows a sheet and yields its records one after another. The next one begins at `at`, a place
+/// and not the rest of the sheet, since faults and names are told by places; `width` is the width of a price field.
 #[derive(Drop)]
 pub struct Reader<'a> {
     sheet: &'a [u8],
@@ -28,7 +28,7 @@ impl<'a> Reader<'a> {
         check_frame(sheet, P::code())?;
         Ok(Reader {
             sheet,
-            at: 4,
+            at: FRAME_BYTES,
             width: P::field_width(),
         })
     }

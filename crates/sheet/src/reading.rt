@@ -4,7 +4,7 @@ ghost use Rattle.std.specs.Prelude.{◌≡◌, ◌≤◌, ◌++◌, map, length,
 ghost use Rattle.graph.specs.Graphs.{plain};
 ghost use Rattle.sheet_format.specs.Layout.{Contents};
 ghost use Rattle.sheet_format.specs.Reading.{read_of, taken_in};
-ghost use Rattle.sheet.specs.Readings.{Made, Pictures, ReadsInWords, Took, graph_after, prices_after, read_answer};
+ghost use Rattle.sheet.specs.Readings.{Made, Pictures, Reads, ReadsInWords, Took, graph_after, prices_after, read_answer};
 ghost use Rattle.sheet.specs.Records.{entry_told};
 
 use crate::filed_price::FiledPrice;
@@ -40,9 +40,10 @@ fn graph_of<P: FiledPrice>(sheet: &[u8]) -> Result<Graph, Fault>
 
 /// Sets the first prices from the price fields of a sheet that reads, where there is room for each.
 fn set_prices<P: FiledPrice>(sheet: &[u8], prices: &mut [P]) -> Result<(), Fault>
-    ensures { (c : Contents) → read_of P.filing.code P.filing.width sheet.now ≡ Ok c → length c.fields ≤ length prices.old → (result ≡ Ok tt) × (prices.new ≡ map P.filing.price_of c.fields ++ drop (length c.fields) prices.old) }
+    ensures { (c : Contents) → Reads P.filing sheet.now c → length c.fields ≤ length prices.old → (result ≡ Ok tt) × (prices.new ≡ map P.filing.price_of c.fields ++ drop (length c.fields) prices.old) }
 {
     let mut stages = Stages::open::<P>(sheet)?;
+    // No `zip`: nothing would be known of the prices after it.
     for price in prices.iter_mut() {
         let Some(stage) = stages.next() else {
             break;

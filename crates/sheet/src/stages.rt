@@ -3,7 +3,7 @@
 ghost use Rattle.std.specs.Prelude.{◌≡◌, ◌≤◌, length, IfOk, Ok};
 ghost use Rattle.std.specs.Iterator.{YieldsFirstBy, item_count};
 ghost use Rattle.sheet_format.specs.Layout.{Contents};
-ghost use Rattle.sheet_format.specs.Reading.{read_of};
+ghost use Rattle.sheet.specs.Readings.{Reads};
 ghost use Rattle.sheet.specs.Stages.{StagesOf, plain_stage, stages_answer, stages_left, stages_of};
 
 use crate::filed_price::FiledPrice;
@@ -21,7 +21,7 @@ impl<'a> Stages<'a> {
     /// The stages of a sheet whose frame is good, for the price kind `P`.
     pub fn open<P: FiledPrice>(sheet: &'a [u8]) -> Result<Stages<'a>, Fault>
         ensures stages { stages_answer result ≡ stages_of P.filing.code P.filing.width sheet.now }
-        ensures in_words { (c : Contents) → read_of P.filing.code P.filing.width sheet.now ≡ Ok c → StagesOf c result }
+        ensures in_words { (c : Contents) → Reads P.filing sheet.now c → StagesOf c result }
         // No more stages come than the sheet has bytes, so a count of them fits a usize.
         ensures few { IfOk result (λ s. length (stages_left s) ≤ length sheet.now) }
     {

@@ -13,7 +13,7 @@ pub struct Case<'a> {
     pub sheet: Vec<u8>,
 }
 
-/// What a hexadecimal digit stands for.
+/// What a hexadecimal digit stands for: capitals alone, where the conversions of the library take small letters too.
 fn digit(b: u8) -> anyhow::Result<u8> {
     match b {
         b'0'..=b'9' => Ok(b - b'0'),

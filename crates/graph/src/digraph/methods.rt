@@ -47,7 +47,8 @@ impl Digraph {
         self.stages = self.stages.with(s);
     }
 
-    /// Links one stage to another, and answers whether both are its stages; if not, it stays as it was.
+    /// Links one stage to another, and answers whether both are its stages, which is all that can be wrong; if they are
+    /// not, it stays as it was.
     pub fn link(&mut self, from: u8, to: u8) -> bool
         ensures answer { result ≡ (stages self.old.stages from && stages self.old.stages to) }
         ensures stages { self.new.stages ≡ self.old.stages }
@@ -99,7 +100,7 @@ impl Digraph {
     pub fn after(&self, v: u8) -> StageSet
         ensures { (s : ℕ) → stages result s ≡ links self.now v s }
     {
-        row(&self.rows, usize::from(v))
+        row(&self.rows, v as usize)
     }
 
     /// The stages before a stage: those with a link to it.
@@ -174,7 +175,7 @@ impl Digraph {
     {
         let mut rows = self.rows;
         for v in (0..64u8).rev() {
-            if row(&rows, usize::from(v)).has(v) {
+            if row(&rows, v as usize).has(v) {
                 return true;
             }
             rows = rows_past(&rows, v);

@@ -26,7 +26,7 @@ pub(crate) fn rows_bridged(rows: &[StageSet; 64], v: u8) -> [StageSet; 64]
         {
             let own = row(rows, u);
             if own.has(v) {
-                own.union(row(rows, usize::from(v)))
+                own.union(row(rows, v as usize))
             } else {
                 own
             }

@@ -40,8 +40,8 @@ impl StageSet {
         s < 64 && (self.word >> s) & 1 == 1
     }
 
-    /// Whether the stage with this index in a table is in the set; from 64 on there is none. It stands beside `has`,
-    /// since one method for both types of number would leave the `3` of `has(3)` without a type.
+    // It stands beside `has`, since one method for both types of number would leave the `3` of `has(3)` without a type.
+    /// Whether the stage with this index in a table is in the set; from 64 on there is none.
     pub fn has_index(self, index: usize) -> bool
         ensures { result ≡ stages self index }
     {

@@ -8,15 +8,6 @@ ghost use Rattle.sheet.specs.Records.{EntryPlaced, entry_answer};
 use crate::record::{Entry, Name, Stage};
 use graph::fault::{Cause, Fault, Layer};
 
-/// The tag byte of a stage record.
-const STAGE: u8 = 1;
-
-/// The tag byte of a link record.
-const LINK: u8 = 2;
-
-/// The tag byte of a live mark.
-const LIVE: u8 = 3;
-
 /// The most bytes that a name may have.
 const LONGEST_NAME: usize = 32;
 
@@ -58,10 +49,11 @@ pub(crate) fn entry_in<'a>(body: &'a [u8], width: usize, place: usize) -> Result
     ensures entry { entry_answer result ≡ formed_or (entry_of width body.now) place }
     ensures name { IfOk result (λ e. EntryPlaced e (place + 1 + width)) }
 {
+    // The tag bytes, as the format writes them: 1 is a stage, 2 a link, 3 a live mark.
     match body {
-        [STAGE, rest @ ..] => stage_of(rest, width, place),
-        [LINK, from, to] => Ok(Entry::Link(*from, *to)),
-        [LIVE, stage] => Ok(Entry::Live(*stage)),
+        [1, rest @ ..] => stage_of(rest, width, place),
+        [2, from, to] => Ok(Entry::Link(*from, *to)),
+        [3, stage] => Ok(Entry::Live(*stage)),
         _ => Err(Fault::new(Cause::RecordBody, Layer::Record, place)),
     }
 }
