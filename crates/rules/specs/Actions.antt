@@ -9,9 +9,11 @@ use Rattle.rules.specs.declared.action.Action.{Action}
 use Rattle.rules.specs.declared.action.Action.TheVariants.{Hold, Pass, DropLink}
 use Rattle.rules.specs.Nets.{Net, stage_in, links_in}
 
--- A set is a cheapest one that breaks the graph, at the prices of a table; a stage with no price there costs nothing.
-abbrev pub CheapestAt : {P : Type 0} → Kind P → List P → Net → Stages → Type 0
-CheapestAt K prices g S = Cheapest K (price_at prices K.nothing) 64 (links_in g) S
+-- A set of the graph's stages is a cheapest one that breaks it, at the prices of a table: no set that breaks it costs
+-- less. A stage with no price there costs nothing.
+pub record CheapestAt {P : Type 0} (K : Kind P) (prices : List P) (g : Net) (S : Stages) : Type 0 where
+  pub of_stages : (s : ℕ) → S s ≡ true → stage_in g s ≡ true
+  pub cheapest : Cheapest K (price_at prices K.nothing) 64 (links_in g) S
 
 -- A stage may be held: it is there, and some cheapest breaking set contains it.
 pub record Holdable {P : Type 0} (K : Kind P) (prices : List P) (g : Net) (v : ℕ) : Type 0 where

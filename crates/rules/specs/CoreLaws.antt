@@ -13,10 +13,11 @@ use Rattle.rules.specs.declared.action.Action.TheVariants.{Hold}
 use Rattle.rules.specs.Actions.{Allowed, CheapestAt, Holdable}
 use Rattle.rules.specs.CoreRules.{core_answer}
 use Rattle.rules.specs.CoreTests.{Cored, cored, fits, mates_of}
-use Rattle.rules.specs.NeighbourLaws.{by_lowest, none_decides, replaced, replaced_cheapest, replaced_has, replaced_keeps, some_cheapest, within_stages}
+use Rattle.rules.specs.Laws.{by_lowest, some_cheapest, within_stages}
+use Rattle.rules.specs.NeighbourLaws.{replaced, replaced_at, replaced_has, replaced_keeps}
 use Rattle.rules.specs.NeighbourTests.{not_dearer}
-use Rattle.rules.specs.Nets.{Inside, Net, links_in}
-use Rattle.rules.specs.Searches.{IsLowest, lowest, lowest_is}
+use Rattle.rules.specs.Nets.{Inside, Net, links_in, stage_in}
+use Rattle.rules.specs.Searches.{none_passes_decides, IsLowest, lowest, lowest_is}
 
 -- a number passes the test exactly if there is a lowest that does
 some_decides : (test : ℕ → Bool) → ((s : ℕ) → test s ≡ true → s < 64) → Decides (is_some (lowest test)) ((s : ℕ) × (test s ≡ true))
@@ -75,7 +76,7 @@ module _ {P : Type 0} (K : Kind P) (prices : List P) (g : Net) (i : Inside g) (v
       Decides-and _ _ (not_decides (links_in g w w))
       (Decides-and _ _
       (Decides-like _ (λ f t. inside_from _ _ (f t)) (λ f t. inside_to _ _ (f t))
-      (none_decides (λ t. (mates_of g v t && not (t == w)) && not (links_in g w t)) (λ t e. mate_small t (and_parts _ _ (and_parts _ _ e).0).0)))
+      (none_passes_decides (λ t. (mates_of g v t && not (t == w)) && not (links_in g w t)) (λ t e. mate_small t (and_parts _ _ (and_parts _ _ e).0).0)))
       ((λ e. e), (λ e. e)))
 
   Parts : Type 0
@@ -119,33 +120,38 @@ module _ {P : Type 0} (K : Kind P) (prices : List P) (g : Net) (i : Inside g) (v
       Decides-like _ in_words from_words
       (Decides-and _ _
       (Decides-and _ _ (some_decides (mates_of g v) mate_small)
-      (none_decides (λ w. (links_in g v w || links_in g w v) && not (mates_of g v w)) (λ w e. linked_small w (and_parts _ _ e).0)))
-      (none_decides (λ w. mates_of g v w && not (fits K prices g (mates_of g v) v w)) (λ w e. mate_small w (and_parts _ _ e).0)))
+      (none_passes_decides (λ w. (links_in g v w || links_in g w v) && not (mates_of g v w)) (λ w e. linked_small w (and_parts _ _ e).0)))
+      (none_passes_decides (λ w. mates_of g v w && not (fits K prices g (mates_of g v) v w)) (λ w e. mate_small w (and_parts _ _ e).0)))
 
 -- ---- why the answer is allowed
 
 module _ {P : Type 0} (K : Kind P) (laws : Lawful K) (prices : List P) (g : Net) (i : Inside g) where
   -- a mate m of such a stage v is in a cheapest set, or takes the place of v there, where all other mates are
   mate_holdable : (v m : ℕ) → Cored K prices g v → mates_of g v m ≡ true → Holdable K prices g m
-  mate_holdable v m c e = record { there = (and_parts _ _ (i.ends_there v m l.0)).1; cheapest = go (some_cheapest K laws prices g i).0 (some_cheapest K laws prices g i).1 (cases_Bool ((some_cheapest K laws prices g i).0 m)) }
+  mate_holdable v m c e =
+      let (S, h) = some_cheapest K laws prices g i in
+      record { there = there; cheapest = go S h (cases_Bool (S m)) }
     where
       l : Link (links_in g) v m × Link (links_in g) m v × (v ≢ m)
       l = links_of_mates (links_in g) v m e
+
+      there : stage_in g m ≡ true
+      there = (and_parts (stage_in g v) (stage_in g m) (i.ends_there v m l.0)).1
 
       -- each mate of v is in the new set
       mate_met : (S : Stages) → CheapestAt K prices g S → S m ≡ false → (p : ℕ) → mates_of g v p ≡ true → replaced S v m p ≡ true
       mate_met S h out p q =
           ⊎_elim (replaced_has S v m p)
-          (λ (n : p ≢ m). replaced_keeps S v m p (mate_in (links_in g) S m p h.breaks (c.each_other m p e q (λ t. n (sym t))) out) (λ t. (links_of_mates (links_in g) v p q).2 (sym t)))
+          (λ (n : p ≢ m). replaced_keeps S v m p (mate_in (links_in g) S m p h.cheapest.breaks (c.each_other m p e q (λ t. n (sym t))) out) (λ t. (links_of_mates (links_in g) v p q).2 (sym t)))
           (cases_eq p m)
 
       go : (S : Stages) → CheapestAt K prices g S → (S m ≡ true) ⊎ (S m ≡ false) → (Z : Stages) × CheapestAt K prices g Z × (Z m ≡ true)
       go S h (inl here) = (S, h, here)
       go S h (inr out) = (
         replaced S v m,
-        replaced_cheapest K laws (price_at prices K.nothing) (links_in g) S v m h
-            (mate_in (links_in g) S m v h.breaks (mates_from_links (links_in g) m v l.1 l.0 (λ t. l.2 (sym t))) out)
-            (within_stages g i v m l.0).1 (c.none_dearer m e)
+        replaced_at K laws prices g S v m h
+            (mate_in (links_in g) S m v h.cheapest.breaks (mates_from_links (links_in g) m v l.1 l.0 (λ t. l.2 (sym t))) out)
+            there (within_stages g i v m l.0).1 (c.none_dearer m e)
             (λ p y r q. inl (mate_met S h out p (c.paired_in p r))),
         replaced_has S v m m refl,
       )
@@ -153,4 +159,4 @@ module _ {P : Type 0} (K : Kind P) (laws : Lawful K) (prices : List P) (g : Net)
   pub core_lawful : Allowed K prices g (core_answer K prices g)
   core_lawful =
       by_lowest K laws prices g i (option_and_then (λ v. option_map Hold (lowest (mates_of g v)))) (cored K prices g) tt
-      (λ v e. by_lowest K laws prices g i (option_map Hold) (mates_of g v) tt (λ m q. mate_holdable v m ((cored_decides K prices g i v).0 e) q))
+      (λ v _ e. by_lowest K laws prices g i (option_map Hold) (mates_of g v) tt (λ m _ q. mate_holdable v m ((cored_decides K prices g i v).0 e) q))

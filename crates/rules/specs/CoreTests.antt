@@ -1,11 +1,11 @@
 -- The test of CORE: a stage that is linked with its mates alone, which are all mates of each other.
-use Rattle.std.specs.Prelude.{◌≡◌, ℕ, Bool, true, false, not, ◌&&◌, ◌||◌, ◌≢◌, ◌==◌, List, is_none, is_some}
+use Rattle.std.specs.Prelude.{◌≡◌, ℕ, Bool, true, false, not, ◌&&◌, ◌||◌, ◌≢◌, ◌==◌, List, is_some}
 use Rattle.theory.specs.Loops.{Link, Stages}
 use Rattle.theory.specs.Mates.{mates}
 use Rattle.theory.specs.Prices.{Kind}
 use Rattle.rules.specs.Nets.{Net, links_in}
 use Rattle.rules.specs.NeighbourTests.{not_dearer}
-use Rattle.rules.specs.Searches.{lowest}
+use Rattle.rules.specs.Searches.{lowest, none_passes}
 
 -- The mates of a stage.
 abbrev pub mates_of : Net → ℕ → Stages
@@ -14,15 +14,15 @@ mates_of g v = mates (links_in g) v
 -- Stage w has no self-link and a link to each other stage of a set, and is not dearer than v.
 abbrev pub fits : {P : Type 0} → Kind P → List P → Net → Stages → ℕ → ℕ → Bool
 fits K prices g S v w =
-    not (links_in g w w) && (is_none (lowest (λ t. (S t && not (t == w)) && not (links_in g w t))) && not_dearer K prices w v)
+    not (links_in g w w) && (none_passes (λ t. (S t && not (t == w)) && not (links_in g w t)) && not_dearer K prices w v)
 
 -- Each stage of a set fits among them.
 abbrev pub all_fit : {P : Type 0} → Kind P → List P → Net → Stages → ℕ → Bool
-all_fit K prices g S v = is_none (lowest (λ w. S w && not (fits K prices g S v w)))
+all_fit K prices g S v = none_passes (λ w. S w && not (fits K prices g S v w))
 
 -- A set has a stage, and no stage but those of the set is linked with v.
 abbrev pub all_linked : Net → Stages → ℕ → Bool
-all_linked g S v = is_some (lowest S) && is_none (lowest (λ w. (links_in g v w || links_in g w v) && not (S w)))
+all_linked g S v = is_some (lowest S) && none_passes (λ w. (links_in g v w || links_in g w v) && not (S w))
 
 -- Stage v has a mate, no stage but its mates is linked with it, and each of its mates fits among them.
 abbrev pub cored : {P : Type 0} → Kind P → List P → Net → ℕ → Bool

@@ -2,6 +2,7 @@
 pub mod Nets
 pub mod Actions
 pub mod Searches
+pub mod Laws
 pub mod StageTests
 pub mod StageRules
 pub mod StageLaws

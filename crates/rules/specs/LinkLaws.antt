@@ -15,15 +15,12 @@ use Rattle.rules.specs.Actions.{Allowed, Droppable}
 use Rattle.rules.specs.LinkRules.{dome_answer, drop_link, pie_answer}
 use Rattle.rules.specs.LinkSearches.{IsLowestLink, lowest_link, lowest_link_is}
 use Rattle.rules.specs.LinkTests.{DominatedLink, OffUnpairedLoop, OneWay, dominated_link, each_in, off_unpaired_loop, one_way}
+use Rattle.rules.specs.Laws.{within_stages}
 use Rattle.rules.specs.Nets.{Inside, Net, links_in}
 use Rattle.rules.specs.Searches.{IsLowest, lowest, lowest_is}
 
--- no link leaves the 64 numbers of stages
-within : (g : Net) → Inside g → Within 64 (links_in g)
-within g i = within_rows g.rows (record { long = i.long; fit = i.rows_fit })
-
 within_unpaired : (g : Net) → Inside g → Within 64 (unpaired (links_in g))
-within_unpaired g i a b h = within g i a b (and_parts _ _ h).0
+within_unpaired g i a b h = within_stages g i a b (and_parts _ _ h).0
 
 one_way_decides : (g : Net) (u w : ℕ) → Decides (one_way g u w) (OneWay g u w)
 one_way_decides g u w = Decides-and _ _ ((λ h. h), (λ h. h)) (Decides-not _ (Decides-eqb u w))

@@ -1,10 +1,10 @@
 -- The tests of links by which rules choose.
-use Rattle.std.specs.Prelude.{ℕ, Bool, not, ◌&&◌, ◌||◌, ◌==◌, ◌≢◌, is_none}
+use Rattle.std.specs.Prelude.{ℕ, Bool, not, ◌&&◌, ◌||◌, ◌==◌, ◌≢◌}
 use Rattle.theory.specs.Loops.{Link, Links, Stages}
 use Rattle.theory.specs.Mates.{Dominated, unpaired}
 use Rattle.theory.specs.Reach.{OnLoop, reaches}
 use Rattle.rules.specs.Nets.{Net, links_in}
-use Rattle.rules.specs.Searches.{lowest}
+use Rattle.rules.specs.Searches.{lowest, none_passes}
 
 -- The link from u to w is unpaired and joins two different stages.
 abbrev pub one_way : Net → Links
@@ -24,7 +24,7 @@ OffUnpairedLoop g u w = OneWay g u w × (OnLoop (unpaired (links_in g)) u w → 
 
 -- Each stage of A is in B: no number is the lowest of a stage of A that is not.
 abbrev pub each_in : Stages → Stages → Bool
-each_in A B = is_none (lowest (λ s. A s && not (B s)))
+each_in A B = none_passes (λ s. A s && not (B s))
 
 -- The link from u to v is dominated from before: no stage has an unpaired link to u and no link to v.
 abbrev pub dominated_before : Links → Links

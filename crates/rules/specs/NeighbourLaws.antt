@@ -15,15 +15,12 @@ use Rattle.price.specs.Costs.{price_at}
 use Rattle.graph.proofs.Loops.{within_rows}
 use Rattle.rules.specs.declared.action.Action.{Action}
 use Rattle.rules.specs.declared.action.Action.TheVariants.{Pass}
+use Rattle.rules.specs.Laws.{by_lowest, some_cheapest, within_stages}
 use Rattle.rules.specs.Actions.{Allowed, CheapestAt, Passable}
 use Rattle.rules.specs.NeighbourRules.{in1_answer, out1_answer}
 use Rattle.rules.specs.NeighbourTests.{OnlyLinkIn, OnlyLinkOut, OnlyOther, alone, fed_by_one, none_but, not_dearer, only, read_by_one, stands_in}
 use Rattle.rules.specs.Nets.{Inside, Net, links_in, stage_in}
-use Rattle.rules.specs.Searches.{IsLowest, lowest, lowest_is}
-
--- no link leaves the 64 numbers of stages
-pub within_stages : (g : Net) → Inside g → Within 64 (links_in g)
-within_stages g i = within_rows g.rows (record { long = i.long; fit = i.rows_fit })
+use Rattle.rules.specs.Searches.{none_passes_decides, IsLowest, lowest, lowest_is}
 
 -- Stage u in the place of stage v.
 abbrev pub replaced : Stages → ℕ → ℕ → Stages
@@ -38,17 +35,9 @@ replaced_keeps S v u s e n = grind (arith, nat_tests)
 replaced_lacks : (S : Stages) (v u : ℕ) → u ≢ v → replaced S v u v ≡ false
 replaced_lacks S v u n = grind (arith, nat_tests)
 
--- no number passes the test exactly if there is no lowest that does
-pub none_decides : (test : ℕ → Bool) → ((s : ℕ) → test s ≡ true → s < 64) → Decides (is_none (lowest test)) ((s : ℕ) → test s ≡ false)
-none_decides test small = go (lowest test) (lowest_is test)
-  where
-    go : (o : Option ℕ) → IsLowest 64 test o → Decides (is_none o) ((s : ℕ) → test s ≡ false)
-    go None h = (λ _ s. false_from_ne_true (test s) (λ e. both_ways (test s) (h s (small s e)) e), λ _. refl)
-    go (Some s) (l, e, low) = (λ f. absurd (false≢true f), λ f. absurd (both_ways (test s) (f s) e))
-
 -- the test of what else is in a set decides it
 pub none_but_decides : (S : Stages) (s : ℕ) → ((t : ℕ) → S t ≡ true → t < 64) → Decides (none_but S s) ((t : ℕ) → (S t && not (t == s)) ≡ false)
-none_but_decides S s small = none_decides (λ t. S t && not (t == s)) (λ t e. small t (and_parts _ _ e).0)
+none_but_decides S s small = none_passes_decides (λ t. S t && not (t == s)) (λ t e. small t (and_parts _ _ e).0)
 
 -- if each walk through v meets the set with u in the place of v, that set breaks what the old one does
 replaced_breaks : (L : Links) (S : Stages) (v u : ℕ)
@@ -82,6 +71,17 @@ replaced_cheapest {P} K laws price L S v u c here below leq meets =
       of_stages = λ s e. ⊎_elim (λ h. c.of_stages s (and_parts _ _ h).0) (λ h. let q = eqb-true s u h in omega arith) (or_cases _ _ e);
       breaks = replaced_breaks L S v u meets c.breaks;
       cheapest = λ Z b. laws.trans _ _ _ (swap_makes_no_set_dearer P K laws price 64 v u S (c.of_stages v here) below here leq) (c.cheapest Z b);
+    }
+
+-- the same of the graph's stages at the prices of a table
+pub replaced_at : {P : Type 0} (K : Kind P) (laws : Lawful K) (prices : List P) (g : Net) (S : Stages) (v u : ℕ)
+    → CheapestAt K prices g S → S v ≡ true → stage_in g u ≡ true → u < 64 → not_dearer K prices u v ≡ true
+    → ((p y : ℕ) → Link (links_in g) p v → Link (links_in g) v y → (replaced S v u p ≡ true) ⊎ (replaced S v u y ≡ true))
+    → CheapestAt K prices g (replaced S v u)
+replaced_at K laws prices g S v u c here near below leq meets =
+    record {
+      of_stages = λ s e. ⊎_elim (λ h. c.of_stages s (and_parts _ _ h).0) (λ h. rw (eqb-true s u h) near) (or_cases _ _ e);
+      cheapest = replaced_cheapest K laws (price_at prices K.nothing) (links_in g) S v u c.cheapest here below leq meets;
     }
 
 -- ---- what the tests decide
@@ -129,28 +129,18 @@ module _ {P : Type 0} (K : Kind P) (prices : List P) (g : Net) (i : Inside g) (v
 -- ---- why the answers are allowed
 
 module _ {P : Type 0} (K : Kind P) (laws : Lawful K) (prices : List P) (g : Net) (i : Inside g) where
-  pub some_cheapest : (S : Stages) × CheapestAt K prices g S
-  some_cheapest = cheapest_exists P K laws (price_at prices K.nothing) 64 (links_in g) (within_stages g i)
-
-  -- an answer by the lowest stage of a test is allowed, if the one for none is and the one for each stage of the test
-  pub by_lowest : (answer : Option ℕ → Option Action) (test : ℕ → Bool) → Allowed K prices g (answer None)
-      → ((s : ℕ) → test s ≡ true → Allowed K prices g (answer (Some s))) → Allowed K prices g (answer (lowest test))
-  by_lowest answer test none f = go (lowest test) (lowest_is test)
-    where
-      go : (o : Option ℕ) → IsLowest 64 test o → Allowed K prices g (answer o)
-      go None h = none
-      go (Some s) (l, e, low) = f s e
-
   -- a stage v may be passed, if each walk through it comes from u or goes to u, which is another and not dearer
-  passable : (v u : ℕ) → stage_in g v ≡ true → links_in g v v ≡ false → u ≢ v → u < 64 → not_dearer K prices u v ≡ true
+  passable : (v u : ℕ) → stage_in g v ≡ true → links_in g v v ≡ false → u ≢ v → stage_in g u ≡ true → u < 64 → not_dearer K prices u v ≡ true
       → ((p y : ℕ) → Link (links_in g) p v → Link (links_in g) v y → (p ≡ u) ⊎ (y ≡ u)) → Passable K prices g v
-  passable v u there no_loop other below leq by_u = record { there = there; no_self_link = no_loop; cheapest = go some_cheapest.0 some_cheapest.1 (cases_Bool (some_cheapest.0 v)) }
+  passable v u there no_loop other near below leq by_u =
+      let (S, c) = some_cheapest K laws prices g i in
+      record { there = there; no_self_link = no_loop; cheapest = go S c (cases_Bool (S v)) }
     where
       go : (S : Stages) → CheapestAt K prices g S → (S v ≡ true) ⊎ (S v ≡ false) → (Z : Stages) × CheapestAt K prices g Z × (Z v ≡ false)
       go S c (inr out) = (S, c, out)
       go S c (inl here) = (
         replaced S v u,
-        replaced_cheapest K laws (price_at prices K.nothing) (links_in g) S v u c here below leq
+        replaced_at K laws prices g S v u c here near below leq
             (λ p y r q. ⊎_elim (λ e. inl (replaced_has S v u p e)) (λ e. inr (replaced_has S v u y e)) (by_u p y r q)),
         replaced_lacks S v u other,
       )
@@ -161,18 +151,18 @@ module _ {P : Type 0} (K : Kind P) (laws : Lawful K) (prices : List P) (g : Net)
 
   -- each walk through v comes from u
   pub in1_lawful : Allowed K prices g (in1_answer K prices g)
-  in1_lawful = by_lowest (option_map Pass) (fed_by_one K prices g) tt (λ v e. at v ((fed_by_one_decides K prices g i v).0 e))
+  in1_lawful = by_lowest K laws prices g i (option_map Pass) (fed_by_one K prices g) tt (λ v l e. at v ((fed_by_one_decides K prices g i v).0 e))
     where
       at : (v : ℕ) → OnlyLinkIn K prices g v → Passable K prices g v
       at v (there, (u, x)) =
-          passable v u there (x.alone v (λ q. x.other (sym q))) x.other (within_stages g i u v x.among).0 x.not_dearer
+          passable v u there (x.alone v (λ q. x.other (sym q))) x.other (and_parts _ _ (i.ends_there u v x.among)).0 (within_stages g i u v x.among).0 x.not_dearer
           (λ p y r q. inl (is_one (λ t. links_in g t v) v u x p r))
 
   -- each walk through v goes to w
   pub out1_lawful : Allowed K prices g (out1_answer K prices g)
-  out1_lawful = by_lowest (option_map Pass) (read_by_one K prices g) tt (λ v e. at v ((read_by_one_decides K prices g i v).0 e))
+  out1_lawful = by_lowest K laws prices g i (option_map Pass) (read_by_one K prices g) tt (λ v l e. at v ((read_by_one_decides K prices g i v).0 e))
     where
       at : (v : ℕ) → OnlyLinkOut K prices g v → Passable K prices g v
       at v (there, (w, x)) =
-          passable v w there (x.alone v (λ q. x.other (sym q))) x.other (within_stages g i v w x.among).1 x.not_dearer
+          passable v w there (x.alone v (λ q. x.other (sym q))) x.other (and_parts _ _ (i.ends_there v w x.among)).1 (within_stages g i v w x.among).1 x.not_dearer
           (λ p y r q. inr (is_one (links_in g v) v w x y q))

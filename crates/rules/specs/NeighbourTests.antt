@@ -1,10 +1,10 @@
 -- The tests of IN1 and OUT1: a stage with one neighbour, by links in or by links out.
-use Rattle.std.specs.Prelude.{◌≡◌, ℕ, Bool, true, false, not, ◌&&◌, ◌≢◌, ◌==◌, List, Option, None, Some, is_none, if◌then◌else◌}
+use Rattle.std.specs.Prelude.{◌≡◌, ℕ, Bool, true, false, not, ◌&&◌, ◌≢◌, ◌==◌, List, Option, None, Some, if◌then◌else◌}
 use Rattle.theory.specs.Loops.{Stages}
 use Rattle.theory.specs.Prices.{Kind}
 use Rattle.price.specs.Costs.{price_at}
 use Rattle.rules.specs.Nets.{Net, stage_in, links_in}
-use Rattle.rules.specs.Searches.{lowest}
+use Rattle.rules.specs.Searches.{lowest, none_passes}
 
 -- Stage u is not dearer than stage v. A price that the table lacks counts as nothing.
 abbrev pub not_dearer : {P : Type 0} → Kind P → List P → ℕ → ℕ → Bool
@@ -12,7 +12,7 @@ not_dearer K prices u v = K.leq (price_at prices K.nothing u) (price_at prices K
 
 -- No stage but s is in the set.
 abbrev pub none_but : Stages → ℕ → Bool
-none_but S s = is_none (lowest (λ t. S t && not (t == s)))
+none_but S s = none_passes (λ t. S t && not (t == s))
 
 -- The stage of a set that has one alone, from its lowest stage.
 abbrev pub alone : Stages → Option ℕ → Option ℕ
