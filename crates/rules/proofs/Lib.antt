@@ -1,9 +1,9 @@
 -- Searches, and from what the code asks to what the rules answer.
 pub mod Searches
-pub mod EmptySets
 pub mod StageAnswers
 pub mod StageWords
 pub mod CoreAnswers
+pub mod NeighbourAnswers
 pub mod LinkSearches
 pub mod LinkAnswers
-pub mod Columns
+pub mod WithinSets

@@ -12,7 +12,8 @@ use Rattle.rules.specs.StageLaws.{none_after_decides, none_before_decides}
 use Rattle.rules.specs.StageRules.{OnLowest, in0_answer, loop_answer, out0_answer}
 use Rattle.rules.specs.StageTests.{NoneAfter, NoneBefore, SelfLinked}
 
-on_lowest : (act : ℕ → Action) (test : ℕ → Bool) (X : ℕ → Type 0) → ((s : ℕ) → Decides (test s) (X s)) → ((s : ℕ) → X s → s < 64)
+-- the action on the lowest stage that passes a test is on the lowest of which X holds, if the test decides X
+pub on_lowest : (act : ℕ → Action) (test : ℕ → Bool) (X : ℕ → Type 0) → ((s : ℕ) → Decides (test s) (X s)) → ((s : ℕ) → X s → s < 64)
     → OnLowest act X (option_map act (lowest test))
 on_lowest act test X d small = go (lowest test) (lowest_is test)
   where
@@ -21,7 +22,7 @@ on_lowest act test X d small = go (lowest test) (lowest_is test)
     go (Some s) (l, e, low) = inl (s, refl, (d s).0 e, λ t b. not_from_Decides (test t) (d t) (low t b))
 
 -- a stage that is there has the number of a stage
-small : (g : Digraph) (s : ℕ) → stage_in (net g) s ≡ true → s < 64
+pub small : (g : Digraph) (s : ℕ) → stage_in (net g) s ≡ true → s < 64
 small g s h = mark_below g.stages.word s g.stages.fits h
 
 pub loop_in_words : (g : Digraph) (o : Option Action) → o ≡ loop_answer (net g) → OnLowest Hold (SelfLinked (net g)) o

@@ -1,39 +1,38 @@
 -- Why CORE may hold the lowest mate: of a stage and its mates all but one are in each breaking set, and the stage makes way
 -- for the mate that is not.
-use Rattle.std.specs.Prelude.{◌≡◌, ℕ, ◌<◌, Bool, true, false, not, ◌&&◌, ◌||◌, ◌==◌, ◌⊎◌, ◌≢◌, List, [], ◌∷◌, Option, None, Some, Decides, is_some}
+use Rattle.std.specs.Prelude.{◌≡◌, ℕ, ◌<◌, Bool, true, false, not, ◌&&◌, ◌||◌, ◌==◌, ◌⊎◌, ◌≢◌, List, [], ◌∷◌, Option, None, Some, Decides, is_none}
 use Rattle.std.specs.Option.{option_and_then, option_map}
 use Rattle.std.proofs.Common.{refl, sym, inl, inr, ⊎_elim, arith}
 use Rattle.std.proofs.lemmas.Bool.{and_from, and_parts, both_ways, cases_Bool, cases_eq, false≢true, false_from_ne_true, or_cases, or_left, or_right}
-use Rattle.std.proofs.lemmas.Bool.Decides.{Decides-and, Decides-eqb, Decides-like, Decides-not, nat_tests}
+use Rattle.std.proofs.lemmas.Bool.Decides.{Decides-and, Decides-like, nat_tests}
 use Rattle.theory.specs.Loops.{Breaks, Link, Links, Stages}
 use Rattle.theory.specs.Mates.{mates}
 use Rattle.theory.specs.Prices.{Kind, Lawful}
-use Rattle.price.specs.Costs.{price_at}
 use Rattle.rules.specs.declared.action.Action.TheVariants.{Hold}
 use Rattle.rules.specs.Actions.{Allowed, CheapestAt, Holdable}
 use Rattle.rules.specs.CoreRules.{core_answer}
 use Rattle.rules.specs.CoreTests.{Cored, cored, fits, mates_of}
-use Rattle.rules.specs.Laws.{by_lowest, some_cheapest, within_stages}
+use Rattle.rules.specs.Laws.{by_lowest, differ_decides, some_cheapest, within_stages}
 use Rattle.rules.specs.NeighbourLaws.{replaced, replaced_at, replaced_has, replaced_keeps}
 use Rattle.rules.specs.NeighbourTests.{not_dearer}
 use Rattle.rules.specs.Nets.{Inside, Net, links_in, stage_in}
-use Rattle.rules.specs.Searches.{none_passes_decides, IsLowest, lowest, lowest_is}
+use Rattle.rules.specs.Searches.{none_passes, none_passes_decides, IsLowest, lowest, lowest_is}
 
--- a number passes the test exactly if there is a lowest that does
-some_decides : (test : ℕ → Bool) → ((s : ℕ) → test s ≡ true → s < 64) → Decides (is_some (lowest test)) ((s : ℕ) × (test s ≡ true))
+-- some number passes the test exactly if it is not so that none does
+some_decides : (test : ℕ → Bool) → ((s : ℕ) → test s ≡ true → s < 64) → Decides (not (none_passes test)) ((s : ℕ) × (test s ≡ true))
 some_decides test small = go (lowest test) (lowest_is test)
   where
-    go : (o : Option ℕ) → IsLowest 64 test o → Decides (is_some o) ((s : ℕ) × (test s ≡ true))
+    go : (o : Option ℕ) → IsLowest 64 test o → Decides (not (is_none o)) ((s : ℕ) × (test s ≡ true))
     go None h = (λ f. absurd (false≢true f), λ x. absurd (both_ways (test x.0) (h x.0 (small x.0 x.1)) x.1))
     go (Some s) (l, e, low) = (λ _. (s, e), λ _. refl)
 
 -- ---- what two mates are
 
 links_of_mates : (L : Links) (a b : ℕ) → mates L a b ≡ true → Link L a b × Link L b a × (a ≢ b)
-links_of_mates L a b e = let p = and_parts _ _ e in let q = and_parts _ _ p.0 in (q.0, q.1, (Decides-not _ (Decides-eqb a b)).0 p.1)
+links_of_mates L a b e = let p = and_parts _ _ e in let q = and_parts _ _ p.0 in (q.0, q.1, (differ_decides a b).0 p.1)
 
 mates_from_links : (L : Links) (a b : ℕ) → Link L a b → Link L b a → a ≢ b → mates L a b ≡ true
-mates_from_links L a b p q n = and_from _ _ (and_from _ _ p q) ((Decides-not _ (Decides-eqb a b)).1 n)
+mates_from_links L a b p q n = and_from _ _ (and_from _ _ p q) ((differ_decides a b).1 n)
 
 -- one of two mates is in each breaking set
 mate_in : (L : Links) (S : Stages) (a b : ℕ) → Breaks L S → mates L a b ≡ true → S a ≡ false → S b ≡ true
@@ -105,13 +104,13 @@ module _ {P : Type 0} (K : Kind P) (prices : List P) (g : Net) (i : Inside g) (v
       each w p = (fits_decides w).0 (inside_from _ _ (fit w) p)
 
       link : (w t : ℕ) → mates_of g v w ≡ true → mates_of g v t ≡ true → w ≢ t → Link (links_in g) w t
-      link w t p q n = (each w p).1.0 t (and_from _ _ q ((Decides-not _ (Decides-eqb t w)).1 (λ h. n (sym h))))
+      link w t p q n = (each w p).1.0 t (and_from _ _ q ((differ_decides t w).1 (λ h. n (sym h))))
 
   from_words : Cored K prices g v → Parts
   unfolding Parts Fits
   from_words c = (
     (c.mate, λ w. inside_to _ _ (λ e. ⊎_elim (c.paired_out w) (c.paired_in w) (or_cases _ _ e))),
-    λ w. inside_to _ _ (λ p. (fits_decides w).1 (c.no_self_link w p, (λ t e. let q = and_parts _ _ e in (links_of_mates (links_in g) w t (c.each_other w t p q.0 (λ h. (Decides-not _ (Decides-eqb t w)).0 q.1 (sym h)))).0, c.none_dearer w p))),
+    λ w. inside_to _ _ (λ p. (fits_decides w).1 (c.no_self_link w p, (λ t e. let q = and_parts _ _ e in (links_of_mates (links_in g) w t (c.each_other w t p q.0 (λ h. (differ_decides t w).0 q.1 (sym h)))).0, c.none_dearer w p))),
   )
 
   pub cored_decides : Decides (cored K prices g v) (Cored K prices g v)

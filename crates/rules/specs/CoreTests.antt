@@ -1,11 +1,11 @@
 -- The test of CORE: a stage that is linked with its mates alone, which are all mates of each other.
-use Rattle.std.specs.Prelude.{◌≡◌, ℕ, Bool, true, false, not, ◌&&◌, ◌||◌, ◌≢◌, ◌==◌, List, is_some}
+use Rattle.std.specs.Prelude.{◌≡◌, ℕ, Bool, true, false, not, ◌&&◌, ◌||◌, ◌≢◌, ◌==◌, List}
 use Rattle.theory.specs.Loops.{Link, Stages}
 use Rattle.theory.specs.Mates.{mates}
 use Rattle.theory.specs.Prices.{Kind}
 use Rattle.rules.specs.Nets.{Net, links_in}
 use Rattle.rules.specs.NeighbourTests.{not_dearer}
-use Rattle.rules.specs.Searches.{lowest, none_passes}
+use Rattle.rules.specs.Searches.{none_passes}
 
 -- The mates of a stage.
 abbrev pub mates_of : Net → ℕ → Stages
@@ -22,7 +22,7 @@ all_fit K prices g S v = none_passes (λ w. S w && not (fits K prices g S v w))
 
 -- A set has a stage, and no stage but those of the set is linked with v.
 abbrev pub all_linked : Net → Stages → ℕ → Bool
-all_linked g S v = is_some (lowest S) && none_passes (λ w. (links_in g v w || links_in g w v) && not (S w))
+all_linked g S v = not (none_passes S) && none_passes (λ w. (links_in g v w || links_in g w v) && not (S w))
 
 -- Stage v has a mate, no stage but its mates is linked with it, and each of its mates fits among them.
 abbrev pub cored : {P : Type 0} → Kind P → List P → Net → ℕ → Bool

@@ -1,13 +1,13 @@
 -- What the laws of the rules share: that there is a cheapest set, and how an answer by a lowest stage is allowed.
-use Rattle.std.specs.Prelude.{◌≡◌, ℕ, zero, suc, ◌<◌, Bool, true, false, ◌&&◌, ◌⊎◌, List, Option, None, Some}
+use Rattle.std.specs.Prelude.{◌≡◌, ◌≢◌, ◌==◌, ℕ, zero, suc, ◌<◌, Bool, true, false, not, ◌&&◌, ◌⊎◌, Decides, List, Option, None, Some}
 use Rattle.std.proofs.Common.{inl, inr, arith}
-use Rattle.std.proofs.lemmas.Bool.{and_from, and_parts, cases_Bool}
-use Rattle.std.proofs.lemmas.Bool.Decides.{nat_tests}
+use Rattle.std.proofs.lemmas.Bool.{and_parts, cases_Bool}
+use Rattle.std.proofs.lemmas.Bool.Decides.{Decides-eqb, Decides-not, nat_tests}
 use Rattle.theory.specs.Cheapest.{Cheapest}
 use Rattle.theory.specs.Loops.{Breaks, Links, Stages, Within}
 use Rattle.theory.specs.Prices.{Kind, Lawful, cost}
 use Rattle.theory.specs.Walks.{Free}
-use Rattle.theory.proofs.Costs.{cheapest_exists, leq_plus, leq_refl}
+use Rattle.theory.proofs.Costs.{cheapest_exists, leq_plus}
 use Rattle.theory.proofs.Through.{breaks_by, each_closed, got_one}
 use Rattle.price.specs.Costs.{price_at}
 use Rattle.graph.proofs.Loops.{within_rows}
@@ -15,6 +15,10 @@ use Rattle.rules.specs.declared.action.Action.{Action}
 use Rattle.rules.specs.Actions.{Allowed, CheapestAt}
 use Rattle.rules.specs.Nets.{Inside, Net, links_in, stage_in}
 use Rattle.rules.specs.Searches.{IsLowest, lowest, lowest_is}
+
+-- the test whether two numbers differ decides it
+pub differ_decides : (a b : ℕ) → Decides (not (a == b)) (a ≢ b)
+differ_decides a b = Decides-not _ (Decides-eqb a b)
 
 -- no link leaves the 64 numbers of stages
 pub within_stages : (g : Net) → Inside g → Within 64 (links_in g)

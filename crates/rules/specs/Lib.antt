@@ -15,5 +15,6 @@ pub mod CoreLaws
 pub mod LinkSearches
 pub mod LinkTests
 pub mod LinkRules
+pub mod FullPile
 pub mod LinkLaws
 pub mod Piles

@@ -3,19 +3,18 @@ use Rattle.std.specs.Prelude.{◌≡◌, ℕ, ◌<◌, true, not, ◌&&◌, List
 use Rattle.std.specs.Option.{option_map}
 use Rattle.std.proofs.Common.{refl, arith}
 use Rattle.std.proofs.lemmas.Bool.{and_from, and_parts, both_ways, false≢true, not-true}
-use Rattle.std.proofs.lemmas.Bool.Decides.{Decides-and, Decides-eqb, Decides-not, Decides-or, nat_tests}
+use Rattle.std.proofs.lemmas.Bool.Decides.{Decides-and, Decides-not, Decides-or, nat_tests}
 use Rattle.theory.specs.Loops.{Links, Stages, Within}
 use Rattle.theory.specs.Mates.{unpaired}
 use Rattle.theory.specs.Prices.{Kind}
 use Rattle.theory.specs.Reach.{OnLoop, reaches}
 use Rattle.theory.proofs.Dropping.{dominated as dominated_drops, off_loops}
 use Rattle.theory.proofs.Reaching.{on_loop_iff_reached_back}
-use Rattle.graph.proofs.Loops.{within_rows}
 use Rattle.rules.specs.Actions.{Allowed, Droppable}
 use Rattle.rules.specs.LinkRules.{dome_answer, drop_link, pie_answer}
 use Rattle.rules.specs.LinkSearches.{IsLowestLink, lowest_link, lowest_link_is}
 use Rattle.rules.specs.LinkTests.{DominatedLink, OffUnpairedLoop, OneWay, dominated_link, each_in, off_unpaired_loop, one_way}
-use Rattle.rules.specs.Laws.{within_stages}
+use Rattle.rules.specs.Laws.{differ_decides, within_stages}
 use Rattle.rules.specs.Nets.{Inside, Net, links_in}
 use Rattle.rules.specs.Searches.{IsLowest, lowest, lowest_is}
 
@@ -23,7 +22,7 @@ within_unpaired : (g : Net) → Inside g → Within 64 (unpaired (links_in g))
 within_unpaired g i a b h = within_stages g i a b (and_parts _ _ h).0
 
 one_way_decides : (g : Net) (u w : ℕ) → Decides (one_way g u w) (OneWay g u w)
-one_way_decides g u w = Decides-and _ _ ((λ h. h), (λ h. h)) (Decides-not _ (Decides-eqb u w))
+one_way_decides g u w = Decides-and _ _ ((λ h. h), (λ h. h)) (differ_decides u w)
 
 -- what the tests of PIE and DOME decide
 pub off_unpaired_loop_decides : (g : Net) → Inside g → (u w : ℕ) → Decides (off_unpaired_loop g u w) (OffUnpairedLoop g u w)

@@ -4,7 +4,7 @@ use Rattle.theory.specs.Loops.{Link, Links, Stages}
 use Rattle.theory.specs.Mates.{Dominated, unpaired}
 use Rattle.theory.specs.Reach.{OnLoop, reaches}
 use Rattle.rules.specs.Nets.{Net, links_in}
-use Rattle.rules.specs.Searches.{lowest, none_passes}
+use Rattle.rules.specs.Searches.{none_passes}
 
 -- The link from u to w is unpaired and joins two different stages.
 abbrev pub one_way : Net → Links
@@ -22,7 +22,7 @@ off_unpaired_loop g u w = one_way g u w && not (reaches 64 (unpaired (links_in g
 abbrev pub OffUnpairedLoop : Net → ℕ → ℕ → Type 0
 OffUnpairedLoop g u w = OneWay g u w × (OnLoop (unpaired (links_in g)) u w → ⊥)
 
--- Each stage of A is in B: no number is the lowest of a stage of A that is not.
+-- Each stage of A is in B: no stage is in A and not in B.
 abbrev pub each_in : Stages → Stages → Bool
 each_in A B = none_passes (λ s. A s && not (B s))
 

@@ -1,21 +1,19 @@
 -- Why IN1 and OUT1 may pass a stage with one neighbour: the neighbour takes its place in a cheapest set.
-use Rattle.std.specs.Prelude.{◌≡◌, ℕ, ◌<◌, Bool, true, false, not, ◌&&◌, ◌==◌, ◌⊎◌, ◌≢◌, List, Option, None, Some, Decides, is_none, if◌then◌else◌}
+use Rattle.std.specs.Prelude.{◌≡◌, ℕ, ◌<◌, Bool, true, false, not, ◌&&◌, ◌==◌, ◌⊎◌, ◌≢◌, List, Option, None, Some, Decides, if◌then◌else◌}
 use Rattle.std.specs.Option.{option_map}
 use Rattle.std.proofs.Common.{refl, sym, subst, ◌∙◌, inl, inr, ⊎_elim, arith}
-use Rattle.std.proofs.lemmas.Bool.{and_from, and_parts, both_ways, cases_Bool, cases_eq, eqb-true, false≢true, false_from_ne_true, or_cases}
-use Rattle.std.proofs.lemmas.Bool.Decides.{Decides-and, Decides-eqb, Decides-not, nat_tests}
+use Rattle.std.proofs.lemmas.Bool.{and_from, and_parts, both_ways, cases_Bool, cases_eq, eqb-true, false≢true, or_cases}
+use Rattle.std.proofs.lemmas.Bool.Decides.{Decides-and, nat_tests}
 use Rattle.theory.specs.Cheapest.{Cheapest}
-use Rattle.theory.specs.Loops.{Link, Links, Stages, Breaks, Within}
+use Rattle.theory.specs.Loops.{Link, Links, Stages, Breaks}
 use Rattle.theory.specs.Moves.{with_stage, without_stage}
 use Rattle.theory.specs.Prices.{Kind, Lawful}
 use Rattle.theory.specs.Walks.{Free}
-use Rattle.theory.proofs.Costs.{cheapest_exists, swap_makes_no_set_dearer}
+use Rattle.theory.proofs.Costs.{swap_makes_no_set_dearer}
 use Rattle.theory.proofs.Through.{Got, breaks_by, got_one, through}
 use Rattle.price.specs.Costs.{price_at}
-use Rattle.graph.proofs.Loops.{within_rows}
-use Rattle.rules.specs.declared.action.Action.{Action}
 use Rattle.rules.specs.declared.action.Action.TheVariants.{Pass}
-use Rattle.rules.specs.Laws.{by_lowest, some_cheapest, within_stages}
+use Rattle.rules.specs.Laws.{by_lowest, differ_decides, some_cheapest, within_stages}
 use Rattle.rules.specs.Actions.{Allowed, CheapestAt, Passable}
 use Rattle.rules.specs.NeighbourRules.{in1_answer, out1_answer}
 use Rattle.rules.specs.NeighbourTests.{OnlyLinkIn, OnlyLinkOut, OnlyOther, alone, fed_by_one, none_but, not_dearer, only, read_by_one, stands_in}
@@ -93,9 +91,6 @@ others_out S u t e n = grind (arith, nat_tests)
 no_other : (S : Stages) (u t : ℕ) → (t ≢ u → S t ≡ false) → (S t && not (t == u)) ≡ false
 no_other S u t f = ⊎_elim (λ (e : t ≡ u). grind (arith, nat_tests)) (λ (n : t ≢ u). let e = f n in grind (arith, nat_tests)) (cases_eq t u)
 
-pub differ_decides : (a b : ℕ) → Decides (not (a == b)) (a ≢ b)
-differ_decides a b = Decides-not _ (Decides-eqb a b)
-
 module _ {P : Type 0} (K : Kind P) (prices : List P) (S : Stages) (v : ℕ) (small : (t : ℕ) → S t ≡ true → t < 64) where
   -- the stage that stands in for v is the only one of the set
   stands_in_decides : Decides (stands_in K prices v (only S)) ((u : ℕ) × OnlyOther K prices S v u)
@@ -111,8 +106,8 @@ module _ {P : Type 0} (K : Kind P) (prices : List P) (S : Stages) (v : ℕ) (sma
           at_s : (b : Bool) → Decides b ((t : ℕ) → (S t && not (t == s)) ≡ false)
               → Decides (stands_in K prices v (if b then Some s else None)) ((u : ℕ) × OnlyOther K prices S v u)
           at_s true d = (
-            λ h. let p = and_parts _ _ h in (s, record { among = e; alone = λ t. others_out S s t (d.0 refl t); other = (differ_decides s v).0 p.0; not_dearer = p.1 }),
-            λ (u, x). subst (λ k. (not (k == v) && not_dearer K prices k v) ≡ true) (same u x) (and_from _ _ ((differ_decides u v).1 x.other) x.not_dearer),
+            λ h. let p = and_parts _ _ h in (s, record { among = e; alone = λ t. others_out S s t (d.0 refl t); other = (differ_decides s v).0 p.0; no_dearer = p.1 }),
+            λ (u, x). subst (λ k. (not (k == v) && not_dearer K prices k v) ≡ true) (same u x) (and_from _ _ ((differ_decides u v).1 x.other) x.no_dearer),
           )
           at_s false d = (
             λ f. absurd (false≢true f),
@@ -155,7 +150,7 @@ module _ {P : Type 0} (K : Kind P) (laws : Lawful K) (prices : List P) (g : Net)
     where
       at : (v : ℕ) → OnlyLinkIn K prices g v → Passable K prices g v
       at v (there, (u, x)) =
-          passable v u there (x.alone v (λ q. x.other (sym q))) x.other (and_parts _ _ (i.ends_there u v x.among)).0 (within_stages g i u v x.among).0 x.not_dearer
+          passable v u there (x.alone v (λ q. x.other (sym q))) x.other (and_parts _ _ (i.ends_there u v x.among)).0 (within_stages g i u v x.among).0 x.no_dearer
           (λ p y r q. inl (is_one (λ t. links_in g t v) v u x p r))
 
   -- each walk through v goes to w
@@ -164,5 +159,5 @@ module _ {P : Type 0} (K : Kind P) (laws : Lawful K) (prices : List P) (g : Net)
     where
       at : (v : ℕ) → OnlyLinkOut K prices g v → Passable K prices g v
       at v (there, (w, x)) =
-          passable v w there (x.alone v (λ q. x.other (sym q))) x.other (and_parts _ _ (i.ends_there v w x.among)).1 (within_stages g i v w x.among).1 x.not_dearer
+          passable v w there (x.alone v (λ q. x.other (sym q))) x.other (and_parts _ _ (i.ends_there v w x.among)).1 (within_stages g i v w x.among).1 x.no_dearer
           (λ p y r q. inr (is_one (links_in g v) v w x y q))

@@ -14,7 +14,7 @@ not_dearer K prices u v = K.leq (price_at prices K.nothing u) (price_at prices K
 abbrev pub none_but : Stages → ℕ → Bool
 none_but S s = none_passes (λ t. S t && not (t == s))
 
--- The stage of a set that has one alone, from its lowest stage.
+-- The lowest stage of a set, where the set has no other.
 abbrev pub alone : Stages → Option ℕ → Option ℕ
 alone S None = None
 alone S (Some s) = if none_but S s then Some s else None
@@ -23,7 +23,7 @@ alone S (Some s) = if none_but S s then Some s else None
 abbrev pub only : Stages → Option ℕ
 only S = alone S (lowest S)
 
--- That stage is another than v, and not dearer.
+-- There is such a stage, and it is another than v and not dearer.
 abbrev pub stands_in : {P : Type 0} → Kind P → List P → ℕ → Option ℕ → Bool
 stands_in K prices v None = false
 stands_in K prices v (Some u) = not (u == v) && not_dearer K prices u v
@@ -41,7 +41,7 @@ pub record OnlyOther {P : Type 0} (K : Kind P) (prices : List P) (S : Stages) (v
   pub among : S u ≡ true
   pub alone : (t : ℕ) → t ≢ u → S t ≡ false
   pub other : u ≢ v
-  pub not_dearer : K.leq (price_at prices K.nothing u) (price_at prices K.nothing v) ≡ true
+  pub no_dearer : not_dearer K prices u v ≡ true
 
 -- Stage v is there, and its only link in is from another stage, which is not dearer.
 abbrev pub OnlyLinkIn : {P : Type 0} → Kind P → List P → Net → ℕ → Type 0

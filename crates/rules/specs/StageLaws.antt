@@ -1,24 +1,22 @@
 -- Why the answers of the rules on single stages are allowed.
-use Rattle.std.specs.Prelude.{◌≡◌, ℕ, ◌<◌, Bool, true, List, [], ◌≢◌, Option, None, Some, Decides}
+use Rattle.std.specs.Prelude.{◌≡◌, ℕ, ◌<◌, true, List, [], ◌≢◌, Some, Decides}
 use Rattle.std.specs.Option.{option_map}
 use Rattle.std.proofs.Common.{refl, arith}
 use Rattle.std.proofs.Math.Bool.{or-false}
 use Rattle.std.proofs.lemmas.Bool.{and_parts, both_ways, false_from_ne_true}
 use Rattle.std.proofs.lemmas.Bool.Decides.{Decides-and, nat_tests}
-use Rattle.theory.specs.Loops.{Breaks, Link, Links, Stages, Within}
+use Rattle.theory.specs.Loops.{Breaks, Link, Links, Stages}
 use Rattle.theory.specs.Moves.{without_stage}
 use Rattle.theory.specs.Prices.{Kind, Lawful}
 use Rattle.theory.specs.Walks.{Free}
-use Rattle.theory.proofs.Costs.{cheapest_exists, leq_without}
+use Rattle.theory.proofs.Costs.{leq_without}
 use Rattle.theory.proofs.Through.{breaks_by, got_one, through}
 use Rattle.price.specs.Costs.{price_at}
-use Rattle.graph.proofs.Loops.{within_rows}
-use Rattle.rules.specs.declared.action.Action.{Action}
 use Rattle.rules.specs.declared.action.Action.TheVariants.{Hold, Pass}
 use Rattle.rules.specs.Laws.{by_lowest, some_cheapest, within_stages}
-use Rattle.rules.specs.Actions.{Allowed, CheapestAt, Passable}
+use Rattle.rules.specs.Actions.{Allowed, Passable}
 use Rattle.rules.specs.Nets.{Inside, Net, links_in, stage_in}
-use Rattle.rules.specs.Searches.{IsLowest, lowest, lowest_is, none_passes_decides}
+use Rattle.rules.specs.Searches.{none_passes_decides}
 use Rattle.rules.specs.StageRules.{in0_answer, loop_answer, out0_answer}
 use Rattle.rules.specs.StageTests.{NoneAfter, NoneBefore, none_after, none_before, self_linked}
 

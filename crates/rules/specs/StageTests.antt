@@ -12,18 +12,18 @@ self_linked g s = stage_in g s && links_in g s s
 abbrev pub SelfLinked : Net → ℕ → Type 0
 SelfLinked g s = (stage_in g s ≡ true) × Link (links_in g) s s
 
--- Stage s is there, and no number below 64 is that of a stage with a link to it.
+-- Stage s is there, and no stage has a link to it.
 abbrev pub none_before : Net → ℕ → Bool
 none_before g s = stage_in g s && none_passes (λ u. links_in g u s)
 
--- In words: it is there, and no stage has a link to it.
+-- That in words, for every number and not only those below 64.
 abbrev pub NoneBefore : Net → ℕ → Type 0
 NoneBefore g s = (stage_in g s ≡ true) × ((u : ℕ) → links_in g u s ≡ false)
 
--- Stage s is there, and no number below 64 is that of a stage that it has a link to.
+-- Stage s is there, and it has a link to no stage.
 abbrev pub none_after : Net → ℕ → Bool
 none_after g s = stage_in g s && none_passes (λ w. links_in g s w)
 
--- In words: it is there, and it has a link to no stage.
+-- That in words, for every number and not only those below 64.
 abbrev pub NoneAfter : Net → ℕ → Type 0
 NoneAfter g s = (stage_in g s ≡ true) × ((w : ℕ) → links_in g s w ≡ false)

@@ -3,7 +3,7 @@
 ghost use Rattle.std.specs.Prelude.{◌≡◌, Decides};
 ghost use Rattle.graph.specs.StageSets.{stages};
 ghost use Rattle.rules.specs.CoreLaws.{core_lawful};
-ghost use Rattle.rules.specs.CoreRules.{core_answer};
+ghost use Rattle.rules.specs.CoreRules.{HoldsLowestMate, core_answer};
 ghost use Rattle.rules.specs.CoreTests.{Cored, all_fit, all_linked, cored, fits, mates_of};
 ghost use Rattle.rules.specs.Nets.{net};
 ghost use Rattle.rules.specs.Searches.{lowest};
@@ -31,7 +31,7 @@ fn is_fit<P: Price>(graph: &Digraph, prices: &[P], set: StageSet, v: u8, w: u8) 
         && is_not_dearer(prices, w, v)
 }
 
-/// Whether each stage of the set is fit in this way.
+/// Whether `is_fit` holds of each stage of the set.
 fn are_fit<P: Price>(graph: &Digraph, prices: &[P], set: StageSet, v: u8) -> bool
     ensures { result ≡ all_fit P.kind prices.now (net graph.now) (stages set) v }
 {
@@ -43,7 +43,7 @@ fn are_all_linked(graph: &Digraph, set: StageSet, v: u8) -> bool
     ensures { result ≡ all_linked (net graph.now) (stages set) v }
 {
     let linked = graph.after(v).union(graph.before(v));
-    lowest_of(set).is_some() && is_empty(linked.difference(set))
+    !is_empty(set) && is_empty(linked.difference(set))
 }
 
 /// Whether a stage has a mate and all its links are paired, and its mates are all mates of each other, without a
@@ -68,7 +68,10 @@ impl<P: Price> Rule<P> for Core {
 
     ghost lawful = { λ r g prices i. core_lawful P.kind P.lawful prices g i };
 
-    fn ask(&self, graph: &Digraph, prices: &[P]) -> Option<Action> {
+    fn ask(&self, graph: &Digraph, prices: &[P]) -> Option<Action>
+        ensures answer { result ≡ core_answer P.kind prices.now (net graph.now) }
+        ensures in_words { HoldsLowestMate P.kind prices.now (net graph.now) result }
+    {
         let stage = lowest_stage(|v| is_cored(graph, prices, v))?;
         lowest_mate(graph, stage).map(Action::Hold)
     }

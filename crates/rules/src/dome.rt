@@ -13,6 +13,7 @@ ghost use Rattle.rules.specs.Nets.{net};
 use crate::action::Action;
 use crate::link_search::lowest_link;
 use crate::rule::Rule;
+use crate::sets::is_empty;
 use graph::digraph::Digraph;
 use graph::stage_set::StageSet;
 use price::price::Price;
@@ -60,7 +61,7 @@ fn column(columns: &[StageSet; 64], v: u8) -> StageSet
 fn is_within(set: StageSet, other: StageSet) -> bool
     ensures { result ≡ each_in (stages set) (stages other) }
 {
-    set.difference(other) == StageSet::empty()
+    is_empty(set.difference(other))
 }
 
 impl Sides {

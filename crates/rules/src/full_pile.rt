@@ -1,5 +1,10 @@
 //! The full pile: the eight rules in their order.
 
+ghost use Rattle.std.specs.Prelude.{◌≡◌};
+ghost use Rattle.rules.specs.FullPile.{full_answer};
+ghost use Rattle.rules.specs.Nets.{net};
+
+use crate::action::Action;
 use crate::core_rule::Core;
 use crate::dome::Dome;
 use crate::in0::In0;
@@ -9,6 +14,9 @@ use crate::out0::Out0;
 use crate::out1::Out1;
 use crate::pie::Pie;
 use crate::pile::Pair;
+use crate::rule::Rule;
+use graph::digraph::Digraph;
+use price::price::Price;
 
 /// The eight rules in the order in which they are asked.
 pub type Full = Pair<
@@ -39,3 +47,10 @@ pub const FULL: Full = Pair {
         },
     },
 };
+
+/// What the full pile proposes: the first of its rules' answers, in their order.
+pub fn ask_full_pile<P: Price>(graph: &Digraph, prices: &[P]) -> Option<Action>
+    ensures first_in_order { result ≡ full_answer P.kind prices.now (net graph.now) }
+{
+    FULL.ask(graph, prices)
+}

@@ -8,9 +8,9 @@ ghost use Rattle.rules.specs.StageRules.{OnLowest, in0_answer};
 ghost use Rattle.rules.specs.StageTests.{NoneBefore, none_before};
 
 use crate::action::Action;
-use crate::empty_set::is_empty;
 use crate::rule::Rule;
 use crate::search::lowest_stage;
+use crate::sets::is_empty;
 use graph::digraph::Digraph;
 use price::price::Price;
 

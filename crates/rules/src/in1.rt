@@ -1,6 +1,8 @@
 //! IN1: pass a stage whose only link in is from another stage that is not dearer.
 
 ghost use Rattle.std.specs.Prelude.{◌≡◌, Decides};
+ghost use Rattle.rules.specs.StageRules.{OnLowest};
+ghost use Rattle.rules.specs.declared.action.Action.TheVariants.{Pass};
 ghost use Rattle.rules.specs.NeighbourLaws.{in1_lawful};
 ghost use Rattle.rules.specs.NeighbourRules.{in1_answer};
 ghost use Rattle.rules.specs.NeighbourTests.{OnlyLinkIn, fed_by_one};
@@ -33,7 +35,10 @@ impl<P: Price> Rule<P> for In1 {
 
     ghost lawful = { λ r g prices i. in1_lawful P.kind P.lawful prices g i };
 
-    fn ask(&self, graph: &Digraph, prices: &[P]) -> Option<Action> {
+    fn ask(&self, graph: &Digraph, prices: &[P]) -> Option<Action>
+        ensures answer { result ≡ in1_answer P.kind prices.now (net graph.now) }
+        ensures in_words { OnLowest Pass (OnlyLinkIn P.kind prices.now (net graph.now)) result }
+    {
         lowest_stage(|v| has_only_link_in(graph, prices, v)).map(Action::Pass)
     }
 }

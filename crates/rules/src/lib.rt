@@ -5,7 +5,6 @@
 pub mod action;
 pub mod core_rule;
 pub mod dome;
-mod empty_set;
 pub mod full_pile;
 pub mod in0;
 pub mod in1;

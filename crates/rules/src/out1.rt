@@ -1,6 +1,8 @@
 //! OUT1: pass a stage whose only link out is to another stage that is not dearer.
 
 ghost use Rattle.std.specs.Prelude.{◌≡◌, Decides};
+ghost use Rattle.rules.specs.StageRules.{OnLowest};
+ghost use Rattle.rules.specs.declared.action.Action.TheVariants.{Pass};
 ghost use Rattle.rules.specs.NeighbourLaws.{out1_lawful};
 ghost use Rattle.rules.specs.NeighbourRules.{out1_answer};
 ghost use Rattle.rules.specs.NeighbourTests.{OnlyLinkOut, read_by_one};
@@ -33,7 +35,10 @@ impl<P: Price> Rule<P> for Out1 {
 
     ghost lawful = { λ r g prices i. out1_lawful P.kind P.lawful prices g i };
 
-    fn ask(&self, graph: &Digraph, prices: &[P]) -> Option<Action> {
+    fn ask(&self, graph: &Digraph, prices: &[P]) -> Option<Action>
+        ensures answer { result ≡ out1_answer P.kind prices.now (net graph.now) }
+        ensures in_words { OnLowest Pass (OnlyLinkOut P.kind prices.now (net graph.now)) result }
+    {
         lowest_stage(|v| has_only_link_out(graph, prices, v)).map(Action::Pass)
     }
 }

@@ -14,7 +14,8 @@ use price::price::Price;
 pub trait Rule<P: Price> {
     ghost answer: { Self → Net → List P → Option Action };
 
-    /// The action that it proposes for this graph at these prices.
+    /// The action that it proposes for this graph at these prices, which are one a stage, by number: a list may have any
+    /// length, and a stage without a price there costs nothing. It refuses nothing and changes nothing.
     fn ask(&self, graph: &Digraph, prices: &[P]) -> Option<Action>
         ensures { result ≡ answer self.now (net graph.now) prices.now };
 

@@ -1,9 +1,9 @@
 //! Single stages of a set.
 
-ghost use Rattle.std.specs.Prelude.{◌≡◌, is_none};
+ghost use Rattle.std.specs.Prelude.{◌≡◌};
 ghost use Rattle.graph.specs.StageSets.{stages};
 ghost use Rattle.rules.specs.NeighbourTests.{none_but, only};
-ghost use Rattle.rules.specs.Searches.{lowest};
+ghost use Rattle.rules.specs.Searches.{lowest, none_passes};
 
 use crate::search::lowest_stage;
 use graph::stage_set::StageSet;
@@ -17,7 +17,7 @@ pub(crate) fn lowest_of(set: StageSet) -> Option<u8>
 
 /// Whether a set has no stage.
 pub(crate) fn is_empty(set: StageSet) -> bool
-    ensures { result ≡ is_none (lowest (stages set)) }
+    ensures { result ≡ none_passes (stages set) }
 {
     set == StageSet::empty()
 }

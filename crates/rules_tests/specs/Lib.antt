@@ -1,2 +1,3 @@
--- Why a rule that can be switched off is lawful.
+-- Why the rules of one's own are lawful.
 pub mod Switched
+pub mod Watched

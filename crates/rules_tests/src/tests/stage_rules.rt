@@ -1,4 +1,5 @@
-use super::{counted, priced};
+use super::{counted, digraph, priced};
+use price::memory::Memory;
 use rules::action::Action;
 use rules::core_rule::Core;
 use rules::in0::In0;
@@ -6,6 +7,7 @@ use rules::in1::In1;
 use rules::loop_rule::Loop;
 use rules::out0::Out0;
 use rules::out1::Out1;
+use rules::rule::Rule;
 
 #[test]
 fn loop_holds_the_lowest_stage_with_a_self_link(rt: HostRuntime) {
@@ -52,6 +54,11 @@ fn in1_passes_a_stage_with_one_link_in_from_another_not_dearer(rt: HostRuntime) 
     assert_eq!(rt; priced(In1, [5, 4, 6], &ring), Some(Action::Pass(2)));
     // stage 1 has a dearer stage before it, and stages 0 and 2 none
     assert_eq!(rt; priced(In1, [9, 1, 1], &[(0, 1)]), None);
+    // of mates, the cheaper one stays
+    assert_eq!(rt;
+        priced(In1, [40, 100, 1], &[(0, 1), (1, 0)]),
+        Some(Action::Pass(1))
+    );
     assert_eq!(rt; priced(In1, [1, 9, 1], &[(0, 1)]), Some(Action::Pass(1)));
 }
 
@@ -66,6 +73,7 @@ fn in1_counts_self_links(rt: HostRuntime) {
 fn out1_passes_a_stage_with_one_link_out_to_another_not_dearer(rt: HostRuntime) {
     let ring = [(0, 1), (1, 2), (2, 0)];
     assert_eq!(rt; counted(Out1, 3, &ring), Some(Action::Pass(0)));
+    assert_eq!(rt; counted(Out1, 3, &[(0, 1), (0, 2)]), None);
     assert_eq!(rt; priced(Out1, [1, 9, 1], &[(0, 1)]), None);
     assert_eq!(rt; priced(Out1, [9, 1, 1], &[(0, 1)]), Some(Action::Pass(0)));
     // stage 1 is dearer than stage 0, and stage 2 is not dearer than stage 1
@@ -121,4 +129,14 @@ fn core_takes_no_dearer_mate(rt: HostRuntime) {
     );
     let three = [(0, 1), (1, 0), (0, 2), (2, 0), (1, 2), (2, 1)];
     assert_eq!(rt; priced(Core, [1, 2, 3], &three), Some(Action::Hold(0)));
+}
+
+#[test]
+fn a_stage_without_a_price_costs_nothing(rt: HostRuntime) {
+    let link = digraph(3, &[(0, 1)], &[]);
+    let five = Memory::of_stage(5);
+    assert_eq!(rt; In1.ask(&link, &[five, five]), Some(Action::Pass(1)));
+    assert_eq!(rt; In1.ask(&link, &[five]), None);
+    assert_eq!(rt; Out1.ask(&link, &[five]), Some(Action::Pass(0)));
+    assert_eq!(rt; Out1.ask(&link, &[Memory::of_stage(0), five]), None);
 }

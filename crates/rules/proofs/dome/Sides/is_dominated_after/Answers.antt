@@ -1,5 +1,5 @@
 use Rattle.std.proofs.Common.{◌∙◌}
-use Rattle.rules.proofs.Columns.{same_each_in}
+use Rattle.rules.proofs.WithinSets.{same_each_in}
 use Rattle.rules.proofs.dome.Sides.is_dominated_after.Goals as goal
 
 pub returns : goal.returns
