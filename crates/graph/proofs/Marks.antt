@@ -1,8 +1,8 @@
 -- The marks of a word under the operations on words: its bits.
 use Rattle.std.proofs.Common.{◌≡◌, ℕ, ◌-◌, ◌*◌, ◌/◌, ◌%◌, ◌^◌, ◌<◌, ◌≤◌, true, false, not, ◌&&◌, ◌||◌, eqb, ltb, ◌≢◌, ◌⊎◌, cond, sym, ap, ◌∙◌, inl, inr, ⊎_elim, arith}
-use lib.Bits.{and_lt, or_lt, bit_and, bit_or}
+use lib.Bits.{and_le_l, and_lt, or_lt, bit_and, bit_or}
 use Rattle.std.specs.Int.{bit_at, w64}
-use Rattle.std.proofs.lemmas.Bool.{cases_Bool, cases_eq, cases_lt, both_ways, lt-ltb}
+use Rattle.std.proofs.lemmas.Bool.{cases_Bool, cases_eq, cases_lt, both_ways, lt-ltb, ne_eqb}
 use Rattle.std.proofs.lemmas.Bool.Decides.{nat_tests}
 use Rattle.std.proofs.lemmas.Nat.{one_shl}
 use Rattle.std.proofs.lemmas.Nat.Bits.{bit_at-lt, bit_at_above, bit_at_and, bit_at_not, bit_at_ones, bit_at_ones_above, bit_at_or, bit_at-pow_other, bit_at-pow_same, bit_at-zero, same_from_bits_below, shr_and_one}
@@ -11,6 +11,18 @@ use Rattle.graph.specs.Marks.{marked}
 -- a bit is 1 or 0
 bit_is : (a s : ℕ) → bit_at a s ≡ cond (marked a s) 1 0
 bit_is a s = let l = bit_at-lt a s in grind (arith, nat_tests)
+
+-- of two bits, each 0 or 1: `&` is 1 where both are, `|` where one is
+bit_and_lem : (x y : ℕ) → (x ≡ 0) ⊎ (x ≡ 1) → (y ≡ 0) ⊎ (y ≡ 1) → eqb (bit_and x y) 1 ≡ (eqb x 1 && eqb y 1)
+bit_and_lem x y (inl e) f = rw e
+bit_and_lem x y (inr e) (inl f) = rw (e, f)
+bit_and_lem x y (inr e) (inr f) = rw (e, f)
+
+bit_or_lem : (x y : ℕ) → (x ≡ 0) ⊎ (x ≡ 1) → (y ≡ 0) ⊎ (y ≡ 1) → eqb (bit_or x y) 1 ≡ (eqb x 1 || eqb y 1)
+bit_or_lem x y (inl e) (inl f) = rw (e, f)
+bit_or_lem x y (inl e) (inr f) = rw (e, f)
+bit_or_lem x y (inr e) (inl f) = rw (e, f)
+bit_or_lem x y (inr e) (inr f) = rw (e, f)
 
 pub marked_and : (a b s : ℕ) → marked (bit_and a b) s ≡ (marked a s && marked b s)
 marked_and a b s = let e = bit_at_and a b s in grind (arith, nat_tests)
@@ -99,5 +111,22 @@ marks_within a b hb z s h t =
 pub or_fits : (a b : ℕ) → a < 2 ^ 64 → b < 2 ^ 64 → bit_or a b < 2 ^ 64
 or_fits a b ha hb = or_lt 64 a b ha hb
 
+-- `a & m != 0`, where m marks s alone, or nothing for s from 64 on
+pub has_mark : (a m s : ℕ) → a < 2 ^ 64 → ((t : ℕ) → marked m t ≡ (eqb t s && ltb s 64)) → not (eqb (bit_and a m) 0) ≡ marked a s
+has_mark a m s h one = go (cases_Bool (marked a s))
+  where
+    go : (marked a s ≡ true) ⊎ (marked a s ≡ false) → not (eqb (bit_and a m) 0) ≡ marked a s
+    go (inl t) =
+        let k = mark_below a s h t in
+        let e : marked (bit_and a m) s ≡ true = rw (marked_and a m s, t, one s, lt-ltb s 64 k) (grind (arith, nat_tests)) in
+        rw (t) (rw (ne_eqb (bit_and a m) 0 (λ z. both_ways _ (ap (λ x. marked x s) z ∙ marked_none s) e)))
+    go (inr f) =
+        let z : bit_and a m ≡ 0 = same_words _ 0 (omega (arith, and_le_l a m)) (omega arith) (λ t. rw (marked_and a m t, one t, marked_none t) (none t (cases_eq t s))) in
+        rw (f, z)
+      where
+        none : (t : ℕ) → (t ≡ s) ⊎ (t ≢ s) → (marked a t && (eqb t s && ltb s 64)) ≡ false
+        none t (inl e) = rw (e, f)
+        none t (inr n) = rw (ne_eqb t s n) (grind (arith, nat_tests))
+
 -- what the operations on words do to their marks
-pub ruleset marks = (marked_and, marked_or, marked_minus, marked_past, marked_none, marked_test, below_is, all_is, mark_is, or_fits)
+pub ruleset marks = (has_mark, marked_and, marked_or, marked_minus, marked_past, marked_none, marked_test, below_is, all_is, mark_is, or_fits)

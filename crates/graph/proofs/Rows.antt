@@ -1,9 +1,9 @@
--- Rows of marks: what they link, with one row changed, and where a closure makes them.
-use Rattle.std.proofs.Common.{◌≡◌, ℕ, zero, suc, [], ◌∷◌, ◌+◌, ◌-◌, ◌^◌, ◌<◌, ◌≤◌, Bool, false, cond, eqb, ◌≢◌, ◌⊎◌, List, length, get_or, set, replicate, sym, ap, subst, ◌∙◌, inl, inr, ⊎_elim, arith}
+-- Rows of marks: what they link, with one row changed, made one after another, and made by a closure.
+use Rattle.std.proofs.Common.{◌≡◌, ℕ, zero, suc, [], ◌∷◌, ◌+◌, ◌-◌, ◌^◌, ◌<◌, ◌≤◌, Bool, false, cond, ◌&&◌, eqb, ltb, ◌≢◌, ◌⊎◌, List, length, get_or, set, replicate, sym, ap, subst, ◌∙◌, inl, inr, ⊎_elim, le_refl, arith}
 use lib.Bits.{bit_and, bit_or, and_lt, or_lt}
 use Rattle.std.proofs.lemmas.Nat.{pow_below}
 use Rattle.std.proofs.lemmas.List.{ext_get_or, get_or_past, get_or-replicate, get_or-set_other, get_or-set_same, length-replicate, length-set, length-map, get_or-map, map-set}
-use Rattle.std.proofs.lemmas.Bool.{cases_eq, cases_lt, eq-eqb, ne_eqb}
+use Rattle.std.proofs.lemmas.Bool.{cases_eq, cases_lt, eq-eqb, ne_eqb, le-ltb, lt-ltb}
 use Rattle.std.proofs.lemmas.Bool.Decides.{nat_tests}
 use Rattle.theory.specs.Moves.{dropped, with_link}
 use denote.Param.Members.{Mut, Called}
@@ -18,6 +18,11 @@ use Rattle.graph.proofs.Marks.{marked_minus, marked_none, marked_one, marked_pas
 pub record Rows (xs : List ℕ) : Type 0 where
   pub long : length xs ≡ 64
   pub fit : (u : ℕ) → get_or xs u 0 < 2 ^ 64
+
+-- the first u rows link as F does, and the others have no link
+pub record Made (F : ℕ → ℕ → Bool) (xs : List ℕ) (u : ℕ) : Type 0 where
+  pub so_far : (a b : ℕ) → linked xs a b ≡ (ltb a u && F a b)
+  pub rows : Rows xs
 
 get_or_zeros : (k : ℕ) → ◌≡◌ {A = ℕ} (get_or (replicate 64 0) k 0) 0
 get_or_zeros k = ⊎_elim (λ (l : k < 64). get_or-replicate 64 k 0 0 l) (λ (l : 64 ≤ k). get_or_past (replicate 64 0) k 0 (omega (arith, length-replicate {A = ℕ} 64 0))) (cases_lt k 64)
@@ -48,6 +53,26 @@ set_rows xs u x r h =
           (λ (n : k ≢ u). rw (get_or-set_other xs u k x 0 n) (r.fit k))
           (cases_eq k u);
     }
+
+-- rows that are made one after another: none yet, one more, and all
+pub made_none : (F : ℕ → ℕ → Bool) → Made F (replicate 64 0) 0
+made_none F = record { so_far = λ a b. unlinked_rows a b ∙ rw (le-ltb a 0 (omega arith)); rows = no_rows }
+
+pub made_more : (F : ℕ → ℕ → Bool) (xs : List ℕ) (u x : ℕ) → Made F xs u → u < 64 → x < 2 ^ 64 → ((b : ℕ) → marked x b ≡ F u b) → Made F (set xs u x) (u + 1)
+made_more F xs u x m h small is =
+    record {
+      so_far = λ a b. set_row xs u x m.rows h a b ∙ step a b (cases_eq a u);
+      rows = set_rows xs u x m.rows small;
+    }
+  where
+    step : (a b : ℕ) → (a ≡ u) ⊎ (a ≢ u) → cond (eqb a u) (marked x b) (linked xs a b) ≡ (ltb a (u + 1) && F a b)
+    step a b (inl e) = rw (eq-eqb a u e, lt-ltb a (u + 1) (omega arith), is b, e)
+    step a b (inr n) = rw (ne_eqb a u n, m.so_far a b) (let k : ltb a u ≡ ltb a (u + 1) = grind (arith, nat_tests) in rw k)
+
+pub made_all : (F : ℕ → ℕ → Bool) (xs : List ℕ) (u : ℕ) → Made F xs u → 64 ≤ u → ((a b : ℕ) → 64 ≤ a → F a b ≡ false) → (a b : ℕ) → linked xs a b ≡ F a b
+made_all F xs u m h none a b =
+    m.so_far a b
+    ∙ ⊎_elim (λ (l : a < 64). rw (lt-ltb a u (omega arith))) (λ (l : 64 ≤ a). rw (none a b l) (grind (arith, nat_tests))) (cases_lt a 64)
 
 -- no link leaves the 64 rows, and none their 64 marks
 pub past_rows : (xs : List ℕ) → Rows xs → (a b : ℕ) → (64 ≤ a) ⊎ (64 ≤ b) → linked xs a b ≡ false
@@ -137,10 +162,11 @@ made_from g f F call xs (suc n) i r u l h e b =
 pub made_rows : {C : Type 0} (g : Mut C (ℕ × Unit {0}) StageSet) (f : C) (xs : List StageSet) → IsFromFnResult g f xs 64 → (F : ℕ → ℕ → Bool)
     → ((u : ℕ) (y : StageSet) (q : C) → Called g f (u, tt) y q → ((b : ℕ) → stages y b ≡ F u b) × (q ≡ f))
     → ((a b : ℕ) → 64 ≤ a → F a b ≡ false) → (a b : ℕ) → linked (words xs) a b ≡ F a b
-made_rows g f xs m F call none a b =
-    ⊎_elim
-    (λ (l : a < 64).
-    let e = get_or xs a (record { word = 0; fits = omega arith }) in
-    row_links xs a e (omega (arith, m.long)) b ∙ made_from g f F call xs 64 0 m.each a (omega arith) (omega arith) e b)
-    (λ (l : 64 ≤ a). past_rows (words xs) (rows_of_sets xs m.long) a b (inl l) ∙ sym (none a b l))
-    (cases_lt a 64)
+made_rows g f xs m F call none =
+    made_all F (words xs) 64 (record { so_far = λ a b. so_far a b (cases_lt a 64); rows = rows_of_sets xs m.long }) (le_refl 64) none
+  where
+    so_far : (a b : ℕ) → (a < 64) ⊎ (64 ≤ a) → linked (words xs) a b ≡ (ltb a 64 && F a b)
+    so_far a b (inl l) =
+        let e = get_or xs a (record { word = 0; fits = omega arith }) in
+        row_links xs a e (omega (arith, m.long)) b ∙ made_from g f F call xs 64 0 m.each a (omega arith) (omega arith) e b ∙ rw (lt-ltb a 64 l)
+    so_far a b (inr l) = past_rows (words xs) (rows_of_sets xs m.long) a b (inl l) ∙ rw (le-ltb a 64 l)

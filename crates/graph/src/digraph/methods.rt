@@ -66,7 +66,7 @@ impl Digraph {
         ensures stages { self.new.stages ≡ self.old.stages }
         ensures links { (a b : ℕ) → links self.new a b ≡ dropped (links self.old) from to a b }
     {
-        if self.is_linked(from, to) {
+        if from < 64 {
             self.rows[from as usize] = self.rows[from as usize].without(to);
         }
     }

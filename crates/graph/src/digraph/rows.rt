@@ -20,16 +20,13 @@ pub(crate) fn row(rows: &[StageSet; 64], u: usize) -> StageSet
 pub(crate) fn rows_bridged(rows: &[StageSet; 64], v: u8) -> [StageSet; 64]
     ensures { (a b : ℕ) → linked (words result) a b ≡ (linked (words rows.now) a b || linked (words rows.now) a v && linked (words rows.now) v b) }
 {
+    let after = row(rows, v as usize);
     array::from_fn(
         |u| -> StageSet
-            ensures { (w : ℕ) → stages result w ≡ (linked (words rows.entry.now) u w || linked (words rows.entry.now) u v && linked (words rows.entry.now) v w) }
+            ensures { (w : ℕ) → stages result w ≡ (linked (words rows.entry.now) u w || linked (words rows.entry.now) u v && stages after w) }
         {
             let own = row(rows, u);
-            if own.has(v) {
-                own.union(row(rows, v as usize))
-            } else {
-                own
-            }
+            if own.has(v) { own.union(after) } else { own }
         },
     )
 }

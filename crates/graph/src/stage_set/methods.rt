@@ -37,15 +37,16 @@ impl StageSet {
     pub fn has(self, s: u8) -> bool
         ensures { result ≡ stages self s }
     {
-        s < 64 && (self.word >> s) & 1 == 1
+        self.word & mark(s) != 0
     }
 
     // It stands beside `has`, since one method for both types of number would leave the `3` of `has(3)` without a type.
+    // Loops over a table ask one set at each index, so it shifts the word; loops over rows ask for one stage, so `has` masks.
     /// Whether the stage with this index in a table is in the set; from 64 on there is none.
     pub fn has_index(self, index: usize) -> bool
         ensures { result ≡ stages self index }
     {
-        u8::try_from(index).is_ok_and(|s| self.has(s))
+        index < 64 && (self.word >> index) & 1 == 1
     }
 
     /// The set with stage `s` in it too; a number from 64 on names no stage and adds none.

@@ -1,4 +1,4 @@
-use Rattle.std.proofs.Common.{◌≡◌, ℕ, ◌<◌, true, not, ◌&&◌, eqb, get_or, set, sym, ◌∙◌, arith, rules}
+use Rattle.std.proofs.Common.{◌≡◌, ℕ, ◌<◌, not, ◌&&◌, eqb, get_or, set, inl, sym, ◌∙◌, arith, rules}
 use Rattle.std.proofs.lemmas.Bool.{and_parts, ne_eqb}
 use Rattle.std.proofs.lemmas.Bool.Decides.{nat_tests}
 use Rattle.theory.specs.Moves.{dropped}
@@ -7,8 +7,7 @@ use Rattle.graph.specs.declared.stage_set.StageSet.{StageSet}
 use Rattle.graph.specs.Digraphs.{links}
 use Rattle.graph.specs.Marks.{linked}
 use Rattle.graph.specs.StageSets.{stages, words}
-use Rattle.graph.proofs.Loops.{within_rows}
-use Rattle.graph.proofs.Rows.{row_changed, row_links, rows_of}
+use Rattle.graph.proofs.Rows.{past_rows, row_changed, row_links, rows_of}
 use Rattle.graph.proofs.digraph.Digraph.drop_link.Goals as goal
 
 -- the row of stage u without stage v
@@ -19,10 +18,6 @@ linked_less g u v i x hu is =
     (λ b. let r = row_links g.rows u i (rw g.long hu) b in is b ∙ grind (arith, nat_tests))
     (λ a b d. let n = ne_eqb a u d in grind (arith, nat_tests))
 
--- the ends of a link are below 64
-below : (g : Digraph) (u v : ℕ) → true ≡ links g u v → u < 64
-below g u v e = (within_rows (words g.rows) (rows_of g) u v (sym e)).0
-
 pub invariant_of-self : goal.invariant_of-self
 invariant_of-self c =
     let g = c.args.self.now in
@@ -30,10 +25,15 @@ invariant_of-self c =
       long = search rules;
       inside = λ a b h.
           g.inside a b
-          (and_parts _ _ (sym (linked_less g c.args.from c.args.to _ _ (below g c.args.from c.args.to c.if-is_linked.ensures) c.without.ensures a b) ∙ h)).0;
+          (and_parts _ _ (sym (linked_less g c.args.from c.args.to _ _ c.if-from-lt64.true c.without.ensures a b) ∙ h)).0;
     }
 
-pub returns-then-is_linked-clause-links : goal.returns-then-is_linked-clause-links
-returns-then-is_linked-clause-links c =
+pub returns-then-from-lt64-clause-links : goal.returns-then-from-lt64-clause-links
+returns-then-from-lt64-clause-links c = linked_less c.args.self.now c.args.from c.args.to _ _ c.if-from-lt64.true c.without.ensures
+
+-- no link leads from a number past the stages
+pub returns-else-from-lt64-clause-links : goal.returns-else-from-lt64-clause-links
+returns-else-from-lt64-clause-links c a b =
     let g = c.args.self.now in
-    linked_less g c.args.from c.args.to _ _ (below g c.args.from c.args.to c.if-is_linked.ensures) c.without.ensures
+    let none = past_rows (words g.rows) (rows_of g) c.args.from b (inl c.if-from-lt64.false) in
+    grind (arith, nat_tests)
