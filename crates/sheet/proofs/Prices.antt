@@ -13,13 +13,11 @@ module _ {P : Type 0} (F : Filing P) where
     pub none_to_write : take i prices ++ written [] (drop i prices) ≡ written all old → prices ≡ written all old
     none_to_write e = sym (take-append-drop i prices) ∙ e
 
-    -- at the end of a table with room for all, no field is left
-    pub table_filled : (fields : List (List ℕ)) → take i prices ++ written fields (drop i prices) ≡ written all old → length all ≤ length old → length prices ≡ length old
-        → length prices ≤ i → prices ≡ written all old
-    table_filled [] e room same done = none_to_write e
-    table_filled (f ∷ fields) e room same done =
-        absurd
-        (omega (
+    -- where there is room for all, no field is to follow past the end of the table
+    pub no_room_left : (f : List ℕ) (fields : List (List ℕ)) → take i prices ++ written (f ∷ fields) (drop i prices) ≡ written all old → length all ≤ length old
+        → length prices ≡ length old → length prices ≤ i → ⊥
+    no_room_left f fields e room same done =
+        omega (
           arith,
           ap length e,
           length-append (take i prices) (written (f ∷ fields) (drop i prices)),
@@ -29,4 +27,4 @@ module _ {P : Type 0} (F : Filing P) where
           length-append (map F.price_of all) (drop (length all) old),
           length-map all F.price_of,
           length-drop (length all) old,
-        ))
+        )

@@ -42,13 +42,11 @@ fn graph_of<P: FiledPrice>(sheet: &[u8]) -> Result<Graph, Fault>
 fn set_prices<P: FiledPrice>(sheet: &[u8], prices: &mut [P]) -> Result<(), Fault>
     ensures { (c : Contents) → Reads P.filing sheet.now c → length c.fields ≤ length prices.old → (result ≡ Ok tt) × (prices.new ≡ map P.filing.price_of c.fields ++ drop (length c.fields) prices.old) }
 {
-    let mut stages = Stages::open::<P>(sheet)?;
-    // No `zip`: nothing would be known of the prices after it.
-    for price in prices.iter_mut() {
-        let Some(stage) = stages.next() else {
-            break;
-        };
-        *price = P::of_field(stage.field);
+    let stages = Stages::open::<P>(sheet)?;
+    for (n, stage) in stages.enumerate() {
+        if n < prices.len() {
+            prices[n] = P::of_field(stage.field);
+        }
     }
     Ok(())
 }
