@@ -1,9 +1,10 @@
 //! The text of a sheet: its refusal, or what is known before any case is taken.
 
-ghost use Rattle.std.specs.Prelude.{◌≡◌, ◌≤◌, map, length, take, IfOk, Ok};
+ghost use Rattle.std.specs.Prelude.{◌≡◌, ◌≤◌, map, length, take, IfOk, Ok, string_bytes};
 ghost use Rattle.graph.specs.Graphs.{plain};
 ghost use Rattle.sheet_format.specs.Layout.{Contents};
 ghost use Rattle.sheet.specs.Readings.{Reads};
+ghost use Rattle.report.specs.Lines.{head_lines};
 ghost use Rattle.report.specs.Texts.{holds_text, plan_text, sheet_text};
 
 use crate::names::push_holds;
@@ -11,10 +12,18 @@ use graph::graph::Graph;
 use price::cost::cost;
 use price::count::Count;
 use price::memory::Memory;
+use sheet::figures::Figures;
 use sheet::filed_price::FiledPrice;
 use sheet::kind::Kind;
 use sheet::reading::read;
 use std::alloc::{AllocError, Global};
+
+/// The lines before those of the holds: the floor, the ceiling, and no case taken.
+fn head(heap: Global, low: Figures, high: Figures) -> Result<String, AllocError>
+    ensures { IfOk result (λ t. string_bytes t ≡ head_lines low high) }
+{
+    format!(in heap; "low {low}\nhigh {high}\ncases 0\n")
+}
 
 /// The text of a sheet that was read as this graph, with the prices of its stages first in the table.
 fn plan<P: FiledPrice>(
@@ -30,7 +39,7 @@ fn plan<P: FiledPrice>(
     let n = graph.stage_count() as usize;
     let low = P::nothing().figures();
     let high = cost(&prices[..n], held).figures();
-    let mut text = format!(in heap; "low {low}\nhigh {high}\ncases 0\n")?.into_bytes();
+    let mut text = head(heap, low, high)?.into_bytes();
     push_holds::<P>(&mut text, sheet, held)?;
     Ok(text)
 }

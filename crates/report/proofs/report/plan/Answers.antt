@@ -15,5 +15,5 @@ returns g c d ok same_graph same_prices =
     let low = c.figures-low.ensures ∙ ap F.figures_of c.nothing.ensures in
     let high = c.figures-high.ensures ∙ ap F.figures_of (c.cost.ensures ∙ same_high K F d c.args.prices.now set c.stage_count-n.result n same_prices held) in
     c.in_ok-push_holds.ensures d ok
-    ∙ ap (λ x. x ++ hold_lines set 0 d.names) (ap (λ v. v.items) c.into_bytes-text.ensures.value ∙ c.in_ok-format.ensures.ok)
+    ∙ ap (λ x. x ++ hold_lines set 0 d.names) (ap (λ v. v.items) c.into_bytes-text.ensures.value ∙ c.in_ok-head.ensures)
     ∙ plan_joined K F d c.figures-low.result c.figures-high.result set low high held
